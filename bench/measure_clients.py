@@ -1,13 +1,12 @@
 #!/usr/bin/env python3
-"""measure_clients.py [--archive PATH] [--repeat N], at the top of the repository: what one ask costs by a handle in C and by the client
+"""measure_clients.py [--library FOLDER] [--repeat N], at the top of the repository: what one ask costs by a handle in C and by the client
 in Python, and within one run over frames in memory.
 
-Over the archive that tools/archive.py leaves it builds crates/cedar_c/examples/cost.c and a shared object, with $CC or cc. Instructions are
+Over the library that tools/archive.py leaves it builds crates/cedar_c/examples/cost.c, with $CC or cc. Instructions are
 those of 1,000 asks (valgrind --tool=callgrind): what 2,000 take less what 1,000 take. Times are processor times of 100,000 asks, the
 fastest of N repeats (5), of one policy, an answer as an object in Python."""
 
 import argparse
-import glob
 import os
 import re
 import resource
@@ -16,7 +15,7 @@ import sys
 import tempfile
 
 HERE = os.path.dirname(os.path.realpath(__file__))
-ARCHIVE = "crates/cedar_c/out/libcedar_c.a"
+FOLDER = "crates/cedar_c/out/cedar"
 COUNTED, TIMED = 1_000, 100_000
 PYTHON = """
 import sys
@@ -32,15 +31,11 @@ assert answer.must == ("policy0",)
 """
 
 
-def build(archive, room):
-    """The program in C, and the shared object."""
-    kit = os.path.dirname(subprocess.run(["rt", "doc"], check=True, capture_output=True, text=True).stdout.strip())
-    compiler, archives = os.environ.get("CC", "cc"), [archive, *glob.glob(f"{kit}/c/lib*_c.a")]
-    include = ["-std=c11", "-O2", "-Icrates/cedar_c/include", "crates/cedar_c/examples/cost.c"]
-    subprocess.run([compiler, *include, *archives, "-o", f"{room}/cost"], check=True)
-    whole = ["-Wl,--whole-archive", archive, "-Wl,--no-whole-archive"]
-    subprocess.run([compiler, "-shared", *whole, *archives[1:], "-o", f"{room}/libcedar.so"], check=True)
-    return f"{room}/cost", {**os.environ, "CEDAR_LIBRARY": f"{room}/libcedar.so", "PYTHONPATH": f"{HERE}/../clients/python"}
+def build(folder, room):
+    """The program in C, and what finds the shared object."""
+    words = ["-std=c11", "-O2", "-pthread", f"-I{folder}/include", "crates/cedar_c/examples/cost.c", f"{folder}/lib/libcedar.a"]
+    subprocess.run([os.environ.get("CC", "cc"), *words, "-o", f"{room}/cost"], check=True)
+    return f"{room}/cost", {**os.environ, "CEDAR_LIBRARY": os.path.abspath(f"{folder}/lib/libcedar.so"), "PYTHONPATH": f"{HERE}/../clients/python"}
 
 
 def instructions(words, env):
@@ -63,11 +58,11 @@ def seconds(words, env, repeat):
 
 def main():
     asked = argparse.ArgumentParser(usage=__doc__)
-    asked.add_argument("--archive", default=ARCHIVE)
+    asked.add_argument("--library", default=FOLDER)
     asked.add_argument("--repeat", type=int, default=5)
     asked = asked.parse_args()
     with tempfile.TemporaryDirectory() as room:
-        cost, env = build(asked.archive, room)
+        cost, env = build(asked.library, room)
         ways = {"run": [cost, "run"], "handle": [cost, "handle"], "Python": [os.path.realpath(sys.executable), "-B", "-c", PYTHON]}
         of_run = None
         for way, words in ways.items():

@@ -1,76 +1,137 @@
 #!/usr/bin/env python3
-"""archive.py [SHARED], at the top of the repository: builds crates/cedar_c/out/libcedar_c.a over the libraries that 'rt ci' left.
+"""archive.py [--over ARCHIVE] [FOLDER], at the top of the repository: the library for C, over the libraries that 'rt ci' left.
 
 The gate proves cedar_c, and leaves no archive of it. This proves that crate once more, some two minutes, and none below it: those
-libraries are the gate's. Where one is missing it says so, and nothing is built. With a path, it also links a shared object there,
-which exports what crates/cedar_c/include/cedar.h declares and nothing else; that takes a C compiler, $CC or cc.
+libraries are the gate's. Where one is missing it says so, and nothing is built. With --over it takes an archive of the crate that is
+there. The guard (crates/cedar_c/guard) is compiled and put before the proved functions, which takes a C compiler, $CC or cc, and its
+tools. FOLDER, or crates/cedar_c/out/cedar, then has
 
-Prints the words that a C compiler needs behind its own, the archives, and ends with status 1 where nothing was built."""
+    include/cedar.h
+    lib/libcedar.a              one object, which exports what the header declares, and nothing else
+    lib/libcedar.so.MAJOR       the same, with that name inside, and lib/libcedar.so
+    lib/pkgconfig/cedar.pc
 
-import importlib.machinery
-import importlib.util
+Prints the folder, and ends with status 1 where nothing was built."""
+
 import os
 import re
 import shutil
-import subprocess
 import sys
 import tempfile
 
 sys.dont_write_bytecode = True
-loader = importlib.machinery.SourceFileLoader("rtmain", os.path.realpath(shutil.which("rt")))
-rt = importlib.util.module_from_spec(importlib.util.spec_from_loader("rtmain", loader))
-sys.modules["rtmain"] = rt
-loader.exec_module(rt)
-lib = rt.rtlib
-lib.Crate = rt.Crate
+from kit import Failed, load, run
 
-HEADER = "crates/cedar_c/include/cedar.h"
-ARCHIVE = "crates/cedar_c/out/libcedar_c.a"
+CRATE = "crates/cedar_c"
+HEADER = f"{CRATE}/include/cedar.h"
+GUARD = f"{CRATE}/guard"
+PROVED = f"{CRATE}/out/libcedar_c.a"
+FOLDER = f"{CRATE}/out/cedar"
+PC = """prefix=${{pcfiledir}}/../..
+Name: cedar
+Description: Sessions of a Cedar authorizer
+Version: {version}
+Cflags: -I${{prefix}}/include
+Libs: -L${{prefix}}/lib -lcedar -pthread
+"""
+
+
+def text_of(path):
+    with open(path, encoding="utf-8") as it:
+        return it.read()
 
 
 def declared():
     """The functions that the header declares."""
-    with open(HEADER, encoding="utf-8") as it:
-        return re.findall(r"(?m)^uint8_t (cedar_\w+)\(", it.read())
+    return re.findall(r"(?m)^CEDAR_API .*?\b(cedar_\w+)\(", text_of(HEADER))
 
 
-def built(crate):
-    """Builds the archive, and returns why it can't be, or nothing."""
+def version():
+    return re.search(r'(?m)^#define CEDAR_VERSION "(.*)"$', text_of(HEADER))[1]
+
+
+def shared_name():
+    return f"libcedar.so.{version().partition('.')[0]}"
+
+
+def tool(name):
+    """A tool of the C compiler's, or what the environment names in its place."""
+    return os.environ.get(name.upper(), name)
+
+
+def prove(rt):
+    """Builds the archive of the proved functions."""
+    lib = rt.rtlib
+    rt.Crate.cuts_libraries = True
+    crate = next(it for it in lib.crates_below(os.getcwd()) if it.name == "cedar_c")
     missing = [it.name for it in crate.below() if not os.path.isdir(it.rlib)]
     if missing:
-        return f"rt ci hasn't left the libraries of {' '.join(missing)}"
+        raise Failed(f"rt ci hasn't left the libraries of {' '.join(missing)}")
     os.makedirs(f"{crate.folder}/out", exist_ok=True)
     words = crate.words(["--jobs", str(min(os.cpu_count() or 1, 4))], keeps=False)
-    words = [lib.RATTLE, "build", *words, "--backend", "llvm", "--toolchain", f"{lib.KIT}/toolchain", "-o", os.path.abspath(ARCHIVE)]
-    ran = subprocess.run(words, cwd=crate.folder, stdin=subprocess.DEVNULL, stdout=subprocess.PIPE, stderr=subprocess.STDOUT, text=True)
-    return None if ran.returncode == 0 else ran.stdout[-3000:]
+    run(lib.RATTLE, "build", *words, "--backend", "llvm", "--toolchain", f"{lib.KIT}/toolchain", "-o", os.path.abspath(PROVED), cwd=crate.folder)
 
 
-def linked(path, archives):
-    """Links a shared object, and returns why it can't be, or nothing."""
-    with tempfile.NamedTemporaryFile("w", suffix=".map") as it:
-        it.write("{ global: %s local: *; };\n" % "".join(f"{name}; " for name in declared()))
-        it.flush()
-        words = [os.environ.get("CC", "cc"), "-shared", "-o", path, f"-Wl,--version-script={it.name}"]
-        words += ["-Wl,--whole-archive", archives[0], "-Wl,--no-whole-archive", *archives[1:]]
-        try:
-            ran = subprocess.run(words, stdout=subprocess.PIPE, stderr=subprocess.STDOUT, text=True)
-        except OSError as why:
-            return f"{words[0]}: {why.strerror}"
-    return None if ran.returncode == 0 else ran.stdout[-3000:]
+def fold(archives, room, target):
+    """One archive of the guard, the proved functions and the kit's, of which all names but the header's are its own."""
+    named = [f"--redefine-sym={it}={it.replace('cedar_', 'cedar_proved_', 1)}" for it in declared()]
+    run(tool("objcopy"), *named, archives[0], f"{room}/proved.a")
+    objects = []
+    for source in sorted(it for it in os.listdir(GUARD) if it.endswith(".c")):
+        objects.append(f"{room}/{source}.o")
+        flags = ["-std=c11", "-O2", "-fPIC", "-pthread", "-fvisibility=hidden", "-ffunction-sections", "-Wall", "-Wextra", "-Wpedantic", "-Werror"]
+        run(tool("cc"), *flags, f"-I{CRATE}/include", "-c", f"{GUARD}/{source}", "-o", objects[-1])
+    run(tool("cc"), "-r", "-nostdlib", "-o", f"{room}/cedar.o", *objects, f"{room}/proved.a", *archives[1:])
+    # (that section numbers symbols, which have other numbers now)
+    kept = [f"--keep-global-symbol={it}" for it in declared()]
+    run(tool("objcopy"), "--remove-section=.llvm_addrsig", *kept, f"{room}/cedar.o")
+    if os.path.exists(target):
+        os.remove(target)
+    run(tool("ar"), "rcsD", target, f"{room}/cedar.o")
+
+
+def link(archive, room, folder):
+    """A shared object of an archive."""
+    name, version_script = shared_name(), f"{room}/cedar.map"
+    with open(version_script, "w", encoding="utf-8") as it:
+        it.write("CEDAR_%s { global: %s local: *; };\n" % (version().rpartition(".")[0], "".join(f"{it}; " for it in declared())))
+    flags = [f"-Wl,--version-script={version_script}", f"-Wl,-soname={name}", "-Wl,-z,defs", "-Wl,-z,relro", "-Wl,-z,now", "-Wl,--gc-sections"]
+    run(tool("cc"), "-shared", "-pthread", *flags, "-o", f"{folder}/{name}", "-Wl,--whole-archive", archive, "-Wl,--no-whole-archive")
+    short = f"{folder}/libcedar.so"
+    if os.path.lexists(short):
+        os.remove(short)
+    os.symlink(name, short)
+
+
+def lay(archives, folder):
+    """Lays what C needs into a folder."""
+    for part in ("include", "lib/pkgconfig"):
+        os.makedirs(f"{folder}/{part}", exist_ok=True)
+    with tempfile.TemporaryDirectory() as room:
+        fold(archives, room, f"{folder}/lib/libcedar.a")
+        link(f"{folder}/lib/libcedar.a", room, f"{folder}/lib")
+    shutil.copyfile(HEADER, f"{folder}/include/cedar.h")
+    with open(f"{folder}/lib/pkgconfig/cedar.pc", "w", encoding="utf-8") as it:
+        it.write(PC.format(version=version()))
 
 
 def main():
-    if len(sys.argv) > 2:
+    words = sys.argv[1:]
+    over = None
+    if words[:1] == ["--over"] and len(words) > 1:
+        over, words = words[1], words[2:]
+    if len(words) > 1 or words[:1] and words[0].startswith("-"):
         sys.exit(__doc__)
-    rt.Crate.cuts_libraries = True
-    crate = next(it for it in lib.crates_below(os.getcwd()) if it.name == "cedar_c")
-    archives = [ARCHIVE, f"{lib.KIT}/c/liblibc_c.a"]
-    why = built(crate) or (linked(sys.argv[1], archives) if len(sys.argv) > 1 else None)
-    if why:
+    folder = words[0] if words else FOLDER
+    try:
+        rt = load()
+        if over is None:
+            prove(rt)
+        lay([over or PROVED, f"{rt.rtlib.KIT}/c/liblibc_c.a"], folder)
+    except Failed as why:
         print(why, file=sys.stderr)
         return 1
-    print(*archives)
+    print(folder)
     return 0
 
 

@@ -352,7 +352,7 @@ def main():
             sys.exit(__doc__)
         program = os.path.abspath(words[1])
         if not os.access(program, os.X_OK):
-            sys.exit(f"there is no program {words[1]}; `rt run` in crates/cedar_main leaves one at crates/cedar_main/out/cedar_main")
+            sys.exit(f"there is no program {words[1]}; `rt run` in crates/cedar_main leaves one at crates/cedar_main/out/cedar_main, and tools/build.py one without a proof")
         return 1 if run_cases(program, words[2:]) else 0
     except (Unread, OSError) as why:
         sys.exit(str(why))

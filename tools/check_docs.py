@@ -10,7 +10,7 @@ has as many.
 A crate may also stand before the words: a heading of docs/DEFINITIONS.md names the crate of the words in brackets below it, and
 a row of docs/PROOFS.md that begins with a crate in bold is one of its calls, as are the rows after it. In docs/ARCHITECTURE.md
 each crate has a row, whose last cell is what tools/rooms.py finds nearest below it. No paragraph has more than 100 words, and
-the pages of docs/ have 16,000 at most. README.md says that each call that may be refused is shown to succeed: tools/called.py
+the pages of docs/ have 20,000 at most. README.md says that each call that may be refused is shown to succeed: tools/called.py
 finds those that no program, example or row makes.
 
 Prints a line for each that isn't so, and ends with status 1 where there is any."""
@@ -58,7 +58,7 @@ class Tree:
             if len(parts) < 3 or parts[0] != "crates":
                 continue
             words = self.words.setdefault(parts[1], set())
-            words.update(re.findall(r"[\w◌.\-+]+|\w+", text_of(file)) if file.endswith((".rt", ".antt", ".edit", ".md")) else ())
+            words.update(re.findall(r"[\w◌.\-+]+|\w+", text_of(file)) if file.endswith((".rt", ".antt", ".edit", ".md", ".h")) else ())
             words.update(re.findall(r"\w+", text_of(file)) if file.endswith((".rt", ".antt", ".edit", ".md", "stdin", "stdout")) else ())
             words.update(it.partition(".")[0] for it in parts[2:])
             if parts[2] == "must-fail":

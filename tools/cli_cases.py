@@ -8,7 +8,8 @@ words name. `refused.txt` has texts that are refused, each below a line `==== NA
 made here from the place. Escapes stand for a byte order mark and a tab. docs/POLICIES.md shows scripts, and what they print: each
 is run too. Beside these it tries bytes that are no text, a text that is too long, one that is too deep, and an output that is full.
 
-All is written by hand, from what is promised. Ends with status 1 where a run goes otherwise."""
+All is written by hand, from what is promised. Of a program that isn't proved (tools/build.py) the case `version` fails, since that
+program says so. Ends with status 1 where a run goes otherwise."""
 
 import os
 import re
@@ -176,7 +177,7 @@ def main():
         sys.exit(__doc__)
     program = os.path.abspath(words[1])
     if not os.access(program, os.X_OK):
-        sys.exit(f"there is no program {words[1]}; `rt run` in crates/cedar_cli leaves one at crates/cedar_cli/out/cedar_cli")
+        sys.exit(f"there is no program {words[1]}; `rt run` in crates/cedar_cli leaves one at crates/cedar_cli/out/cedar_cli, and tools/build.py one without a proof")
     passed = failed = 0
     for tried in (of_refused, of_folders, of_page, beside):
         for name, wanted, got in tried(program):

@@ -1,16 +1,16 @@
 #!/usr/bin/env bash
-# test_clients.sh [ARCHIVE [PROGRAM]], at the top of the repository: the examples in C, the clients in Python and Rust and what docs/CLIENTS.md
-# shows, on crates/cedar_c/out/libcedar_c.a (tools/archive.py makes it) and the program, or on those that are given.
+# test_clients.sh [FOLDER [PROGRAM]], at the top of the repository: the examples in C, the clients in Python and Rust and what docs/C.md and
+# docs/CLIENTS.md show, on the library in crates/cedar_c/out/cedar (tools/archive.py makes it) and the program, or on those that are given.
 #
 # Through a handle all sessions of crates/cedar_main/cases are answered as by the program, also with requests for memory refused, under valgrind
-# without a bad access or a leak. Threads with the stacks of docs/C.md hold the deepest texts. The client in Python reads back random values, and
+# without a bad access or a leak. What a caller does wrong is a status, also under valgrind, and by several threads under helgrind. Threads with
+# the stack that cedar.h tells hold the deepest texts, and take no more of it. The client in Python reads back random values, and
 # is installed without a network; copies answer alike over a PostgreSQL server on loopback that is cut off, ended, killed and restored, and tests
 # see each fault that is planted into them.
-# Says what it left out for want of cc, python3, cargo, valgrind, mypy or PostgreSQL, and ends with status 1 where anything fails.
+# Says what it left out for want of cc, c++, pkg-config, python3, cargo, valgrind, mypy or PostgreSQL, and ends with status 1 where anything fails.
 set -u
-archive=$(realpath "${1:-crates/cedar_c/out/libcedar_c.a}")
+folder=$(realpath "${1:-crates/cedar_c/out/cedar}")
 program=$(realpath "${2:-crates/cedar_main/out/cedar_main}")
-kit=${KIT:-$(dirname "$(rt doc)")}
 room=$(mktemp -d)
 trap 'rm -rf "$room"' EXIT
 failed=0 passed=0
@@ -35,30 +35,63 @@ try() {
     fi
 }
 
-# The text of the Nth block of a page that has no language.
-plain_block() {
-    awk -v nth="$2" '/^```/ { if (inside) { inside = on = 0 } else { inside = 1; on = $0 == "```" && ++n == nth } next } on' "$1"
+# The text of the Nth block of a page that is of this language, or of none.
+block() {
+    awk -v nth="$2" -v head="\`\`\`${3:-}" '/^```/ { if (inside) { inside = on = 0 } else { inside = 1; on = $0 == head && ++n == nth } next } on' "$1"
+}
+
+strictly() {
+    "$1" -std="$2" -Wall -Wextra -Wpedantic -Werror -O1 -pthread -I"$folder/include" "${@:3}"
 }
 
 link() {
-    cc -std=c11 -Wall -Wextra -Wpedantic -Werror -O1 -pthread -Icrates/cedar_c/include "crates/cedar_c/examples/$1.c" "$archive" "$kit"/c/lib*_c.a \
-        -o "$room/$1"
+    strictly cc c11 "crates/cedar_c/examples/$1.c" "$folder/lib/libcedar.a" "${@:2}" -o "$room/$1"
 }
 
+# What the header declares, and nothing else; the name by which programs ask for it has the number of the version.
 shared_object() {
-    sed -n 's/^uint8_t \(cedar_[a-z_]*\)(.*/\1/p' crates/cedar_c/include/cedar.h | sort > "$room/declared"
-    { echo '{ global:' && sed 's/$/;/' "$room/declared" && echo 'local: *; };'; } > "$room/map"
-    cc -shared -o "$room/libcedar.so" -Wl,--version-script="$room/map" -Wl,--whole-archive "$archive" -Wl,--no-whole-archive "$kit"/c/lib*_c.a
-    nm -D --defined-only "$room/libcedar.so" | awk '{ print $3 }' | sort | diff "$room/declared" -
+    local library="$folder/lib/libcedar.so" version
+    sed -n 's/^CEDAR_API .*\b\(cedar_[a-z_]*\)(.*/\1/p' crates/cedar_c/include/cedar.h | sort > "$room/declared"
+    [ -s "$room/declared" ] && cmp crates/cedar_c/include/cedar.h "$folder/include/cedar.h" || return 1
+    nm -D --defined-only "$library" | awk '$2 == "T" { sub("@.*", "", $3); print $3 }' | sort | diff "$room/declared" - || return 1
+    version=$(sed -n 's/^#define CEDAR_VERSION "\([0-9]*\).*/\1/p' crates/cedar_c/include/cedar.h)
+    readelf -d "$library" | grep -F "[libcedar.so.$version]"
 }
 
 exports_of_archive() {
-    nm -g --defined-only "$archive" | awk '$2 == "T" { print $3 }' | sort | diff "$room/declared" -
+    nm -g --defined-only "$folder/lib/libcedar.a" | awk 'NF == 3 { print $3 }' | sort | diff "$room/declared" -
+}
+
+# The clients are of the header's version, and have its highest limit of depth.
+versions() {
+    local it
+    it=$(sed -n 's/^#define CEDAR_VERSION "\(.*\)"$/\1/p' crates/cedar_c/include/cedar.h)
+    grep -x "version = \"$it\"" clients/python/pyproject.toml && grep -x "version = \"$it\"" clients/rust/Cargo.toml || return 1
+    grep -x "_VERSION = \"${it%.*}.\"" clients/python/cedar_session/session.py && grep -x "const VERSION: &str = \"${it%.*}.\";" clients/rust/src/session.rs || return 1
+    it=$(sed -n 's/^#define CEDAR_DEPTH_MAX //p' crates/cedar_c/include/cedar.h)
+    grep -x "DEPTH_MAX = $it" clients/python/cedar_session/session.py && grep -x "pub const DEPTH_MAX: u32 = $it;" clients/rust/src/session.rs
+}
+
+by_pkg_config() {
+    # shellcheck disable=SC2046
+    cc -o "$room/by_pkg_config" crates/cedar_c/examples/ask.c $(PKG_CONFIG_PATH="$folder/lib/pkgconfig" pkg-config --cflags --libs cedar) || return 1
+    LD_LIBRARY_PATH="$folder/lib" "$room/by_pkg_config" | diff "$room/asked" -
+}
+
+as_cplusplus() {
+    printf '#include <cedar.h>\nint main() { cedar_session it = CEDAR_CLOSED; return cedar_open(&it, CEDAR_DEPTH) || cedar_close(&it); }\n' > "$room/it.cc"
+    strictly c++ c++11 "$room/it.cc" "$folder/lib/libcedar.a" -o "$room/cplusplus" && "$room/cplusplus"
+}
+
+# The program that the page begins with, and what it writes.
+page() {
+    block docs/C.md 1 c > "$room/page.c" && [ -s "$room/page.c" ] && strictly cc c11 "$room/page.c" "$folder/lib/libcedar.a" -o "$room/page" || return 1
+    "$room/page" > "$room/written" && block docs/C.md 1 | diff - "$room/written"
 }
 
 ask() {
     "$room/ask" > "$room/asked"
-    plain_block docs/C.md 1 | diff - "$room/asked"
+    block docs/C.md 2 | diff - "$room/asked"
 }
 
 serves() {
@@ -74,32 +107,39 @@ costs() {
     "$room/cost" handle 100 && "$room/cost" run 100
 }
 
-# Each row of the table in docs/C.md: the limit, and the most that its columns have.
+# The deepest texts take no more of the stack than cedar.h tells, and threads that have so much hold them.
 stacks() {
-    awk -F'[|]' '$3 ~ /KiB/ { most = 0; for (at = 3; at <= 5; at++) if ($at + 0 > most) most = $at + 0; print $2 + 0, most }' docs/C.md > "$room/rows"
-    [ -s "$room/rows" ] || return 1
-    local limit most
-    while read -r limit most; do
-        "$room/stack" "$limit" "$most" || return 1
-    done < "$room/rows"
+    local limit
+    "$room/stack" || return 1
+    for limit in 8 16 32 64 128 256 1024; do
+        "$room/stack" "$limit" || return 1
+    done
+}
+
+misuse() {
+    "$@" "$room/misuse" && "$@" "$room/misuse" threads
+}
+
+memcheck() {
+    valgrind -q --leak-check=full --show-leak-kinds=all --error-exitcode=99 --main-stacksize=33554432 "$@"
 }
 
 # One session without a bad access or a leak, and with the lines that the program writes.
 clean_session() {
     local written
     written=$(mktemp -p "$room")
-    valgrind -q --leak-check=full --show-leak-kinds=all --error-exitcode=99 --main-stacksize=33554432 "$room/frames" < "$1" > "$written"
+    memcheck "$room/frames" < "$1" > "$written"
     [ $? -ne 99 ] && diff "${1%.stdin}.stdout" "$written" && return
     echo "$1"
     return 1
 }
 
 under_valgrind() {
-    export -f clean_session
+    export -f clean_session memcheck
     export room
     # shellcheck disable=SC2016
     find crates/cedar_main/cases -name '*.stdin' -size -20001c -print0 | xargs -0 -P "$(nproc)" -n 1 bash -c 'clean_session "$1"' '' || return 1
-    serves valgrind -q --leak-check=full --show-leak-kinds=all --error-exitcode=99 --main-stacksize=33554432
+    serves memcheck
 }
 
 # One with psycopg, where there is one.
@@ -112,14 +152,14 @@ for it in python3 /usr/bin/python3; do
 done
 
 python_tests() {
-    (cd clients/python && PATH="$room/bin:$PATH" CEDAR_LIBRARY="$room/libcedar.so" "$python" -B -m unittest -q "${@/#/tests.}")
+    (cd clients/python && PATH="$room/bin:$PATH" CEDAR_LIBRARY="$folder/lib/libcedar.so" "$python" -B -m unittest -q "${@/#/tests.}")
 }
 
 # Without a network, and nothing is left in the sources; with the shared object inside nothing has to name it.
 is_installed() {
     local before
     before=$(git status --short --ignored clients)
-    "$python" -m pip --disable-pip-version-check wheel -q --no-index --config-settings "library=$room/libcedar.so" -w "$room/wheels" clients/python || return 1
+    "$python" -m pip --disable-pip-version-check wheel -q --no-index --config-settings "library=$folder/lib/libcedar.so" -w "$room/wheels" clients/python || return 1
     "$python" -m pip --disable-pip-version-check install -q --no-index --target "$room/site" "$room"/wheels/*.whl || return 1
     (cd "$room" && PYTHONPATH="$room/site" "$python" -B -c 'import cedar_session; print(cedar_session.Session().load(""))') || return 1
     [ "$before" = "$(git status --short --ignored clients)" ]
@@ -149,21 +189,27 @@ copies() {
 }
 
 rust_tests() {
-    CEDAR_ARCHIVES="$archive $(echo "$kit"/c/lib*_c.a)" RUSTFLAGS='-D warnings' \
+    CEDAR_ARCHIVE="$folder/lib/libcedar.a" RUSTFLAGS='-D warnings' \
         cargo test -q --offline --manifest-path clients/rust/Cargo.toml --target-dir "$room/target"
 }
 
-[ -f "$archive" ] || { echo "$archive isn't there: python3 tools/archive.py makes it" && exit 1; }
+[ -f "$folder/lib/libcedar.a" ] || { echo "$folder isn't there: python3 tools/archive.py makes it" && exit 1; }
 mkdir "$room/bin" && ln -s "$program" "$room/bin/cedar_session"
 
 if has cc 'the examples in C, and all that needs the shared object'; then
     try 'a shared object exports what the header declares' shared_object
     try 'the archive exports it too, and nothing else' exports_of_archive
+    try 'the clients are of the version of the header' versions
     for example in ask serve frames stack cost; do try "$example.c is compiled" link "$example"; done
+    try 'misuse.c is compiled' link misuse -Wl,--wrap=malloc
+    try 'docs/C.md begins with a program, and shows what it writes' page
     try 'ask.c writes what docs/C.md shows' ask
+    has pkg-config 'ask.c by pkg-config' && try 'ask.c by pkg-config, over the shared object' by_pkg_config
+    has c++ 'the header in C++' && try 'the header in C++' as_cplusplus
     try 'serve.c answers a line each' serves
     try 'cost.c is answered' costs
-    try 'threads with the stacks of docs/C.md hold the deepest texts' stacks
+    try 'what a caller does wrong is a status' misuse
+    try 'threads with the stacks of cedar.h hold the deepest texts' stacks
     if has python3 'the sessions by a handle, and the client in Python'; then
         try 'sessions by a handle' python3 tools/cases.py --program "$room/frames"
         try 'sessions by a handle, with requests for memory refused' python3 tools/refuse_growths.py --program "$room/frames" --seconds "${SECONDS_OF_REFUSING:-30}"
@@ -187,7 +233,11 @@ if has cc 'the examples in C, and all that needs the shared object'; then
             echo "left out, for want of $program: the program as a child, a session for each connection, copies"
         fi
     fi
-    has valgrind 'bad accesses and leaks' && try 'sessions by a handle under valgrind' under_valgrind
+    if has valgrind 'bad accesses and leaks, races of threads'; then
+        try 'sessions by a handle under valgrind' under_valgrind
+        try 'what a caller does wrong, under valgrind' misuse memcheck
+        try 'several threads at one handle, under helgrind' valgrind -q --tool=helgrind --error-exitcode=99 "$room/misuse" threads
+    fi
     has cargo 'the client in Rust' && try 'the client in Rust' rust_tests
 fi
 echo "$passed passed, $failed failed"

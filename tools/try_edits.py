@@ -9,8 +9,6 @@ read, each is tried alone. With --proved nothing is checked without edits: that 
 
 Nothing else is proved, and the libraries are those that 'rt ci' or 'rt lib' built last, so this gives no verdict on a crate."""
 
-import importlib.machinery
-import importlib.util
 import os
 import re
 import resource
@@ -20,12 +18,10 @@ import sys
 import tempfile
 
 sys.dont_write_bytecode = True
-loader = importlib.machinery.SourceFileLoader("rtmain", os.path.realpath(shutil.which("rt")))
-rt = importlib.util.module_from_spec(importlib.util.spec_from_loader("rtmain", loader))
-sys.modules["rtmain"] = rt
-loader.exec_module(rt)
+import kit
+
+rt = kit.load()
 lib = rt.rtlib
-lib.Crate = rt.Crate
 
 
 def fits(path, function):

@@ -1,31 +1,29 @@
-//! Links the archives that the environment's `CEDAR_ARCHIVES` names, with blanks between them; without it the
-//! shared object `libcedar.so`, in the folder that `CEDAR_LIBRARY_FOLDER` names or where the system finds it.
+//! Links the archive `libcedar.a` that the environment's `CEDAR_ARCHIVE` names; without it the shared object
+//! `libcedar.so`, in the folder that `CEDAR_LIBRARY_FOLDER` names or where the system finds it.
 
 use std::env;
 use std::path::Path;
 
 fn main() {
-    println!("cargo::rerun-if-env-changed=CEDAR_ARCHIVES");
+    println!("cargo::rerun-if-env-changed=CEDAR_ARCHIVE");
     println!("cargo::rerun-if-env-changed=CEDAR_LIBRARY_FOLDER");
-    match env::var("CEDAR_ARCHIVES") {
-        Ok(archives) => archives.split_whitespace().for_each(link_archive),
-        Err(_) => link_shared_object(),
+    match env::var_os("CEDAR_ARCHIVE") {
+        Some(archive) => link_archive(Path::new(&archive)),
+        None => link_shared_object(),
     }
 }
 
-fn link_archive(path: &str) {
-    let path = Path::new(path);
+fn link_archive(path: &Path) {
     let name = path.file_name().and_then(|name| name.to_str());
-    let name = name.and_then(|name| name.strip_prefix("lib")?.strip_suffix(".a"));
-    let Some((name, folder)) = name.zip(path.parent()) else {
+    let Some((_, folder)) = name.filter(|name| *name == "libcedar.a").zip(path.parent()) else {
         panic!(
-            "CEDAR_ARCHIVES names {}, which is no archive libNAME.a",
+            "CEDAR_ARCHIVE names {}, which is no libcedar.a",
             path.display()
         );
     };
     println!("cargo::rerun-if-changed={}", path.display());
     println!("cargo::rustc-link-search=native={}", folder.display());
-    println!("cargo::rustc-link-lib=static={name}");
+    println!("cargo::rustc-link-lib=static=cedar");
 }
 
 fn link_shared_object() {

@@ -27,13 +27,14 @@ from .errors import (
     TimedOut,
     TooLong,
 )
-from .session import Session, SessionThread
+from .session import DEPTH_MAX, Session, SessionThread
 from .streams import Child, Connection
 from .values import UNKNOWN, Entity, Unknown, UnknownPart, quoted
 
 __all__ = [
     "BODY_LIMIT",
     "DEPTH",
+    "DEPTH_MAX",
     "LANGUAGE",
     "UNKNOWN",
     "Answer",

@@ -38,7 +38,7 @@ class NotOpen(CedarError):
 
 
 class NoLibrary(NotOpen, OSError):
-    """The shared object can't be loaded, or is another library."""
+    """The shared object can't be loaded, or is another library, or of another version."""
 
 
 class NoMemory(CedarError, MemoryError):

@@ -9,10 +9,13 @@ from concurrent.futures import ThreadPoolExecutor
 from typing import Callable, Optional, TypeVar
 
 from .commands import DEPTH, Commands
-from .errors import BadValue, CedarError, NoCommand, NoLibrary, NoMemory, NotOpen, OtherThread
+from .errors import BadValue, Busy, CedarError, NoCommand, NoLibrary, NoMemory, NotOpen, OtherThread, TooLong
 
-_DONE, _NO_COMMAND, _NO_MEMORY, _NO_ROOM, _NOT_OPEN = 0, 2, 4, 5, 6
-_ERRORS = {_NO_COMMAND: NoCommand, _NO_MEMORY: NoMemory, _NOT_OPEN: NotOpen}
+DEPTH_MAX = 1024
+# The calls are those of the shared objects whose version begins so.
+_VERSION = "0.1."
+_DONE, _NO_ROOM = 0, 5
+_ERRORS = {4: NoMemory, 6: NotOpen, 8: NoCommand, 9: TooLong, 10: Busy, 11: OtherThread, 12: BadValue}
 _OWN = os.path.join(os.path.dirname(os.path.abspath(__file__)), "libcedar.so")
 # (what stack threads get is told for the whole process)
 _STACKS = threading.Lock()
@@ -20,30 +23,28 @@ _STACKS = threading.Lock()
 T = TypeVar("T")
 
 
-class _Handle(ctypes.Structure):
-    _fields_ = [("at", ctypes.c_void_p)]
-
-
 def _library(path: Optional[str]) -> ctypes.CDLL:
-    named = path or os.environ.get("CEDAR_LIBRARY") or (_OWN if os.path.exists(_OWN) else "libcedar.so")
-    handle, count = ctypes.POINTER(_Handle), ctypes.c_size_t
+    named = path or os.environ.get("CEDAR_LIBRARY") or (_OWN if os.path.exists(_OWN) else "libcedar.so.0")
+    handle, count = ctypes.c_void_p, ctypes.c_size_t
     try:
         cedar = ctypes.CDLL(named)
-        cedar.cedar_open.argtypes = [handle, ctypes.c_uint32]
+        cedar.cedar_version.restype = cedar.cedar_status_text.restype = ctypes.c_char_p
+        cedar.cedar_new.argtypes = [ctypes.POINTER(handle), ctypes.c_uint32]
         cedar.cedar_command.argtypes = [handle, ctypes.c_char_p, count, ctypes.c_char_p, count]
         cedar.cedar_answer.argtypes = [handle, ctypes.c_void_p, count, ctypes.POINTER(count)]
-        cedar.cedar_close.argtypes = [handle]
-        for call in (cedar.cedar_open, cedar.cedar_command, cedar.cedar_answer, cedar.cedar_close):
-            call.restype = ctypes.c_uint8
+        cedar.cedar_free.argtypes = cedar.cedar_close.argtypes = [handle]
+        version = cedar.cedar_version().decode(errors="replace")
     except (AttributeError, OSError) as why:
         raise NoLibrary(str(why)) from why
+    if not version.startswith(_VERSION):
+        raise NoLibrary(f"{named} is of version {version}, and not {_VERSION}*")
     return cedar
 
 
 def stack_for(depth: int) -> int:
     """How many bytes of a stack a limit of depth takes, with room besides."""
-    if not isinstance(depth, int) or isinstance(depth, bool) or not 0 <= depth < 2**32:
-        raise BadValue(f"no limit of depth: {depth!r}")
+    if not isinstance(depth, int) or isinstance(depth, bool) or not 0 <= depth <= DEPTH_MAX:
+        raise BadValue(f"no limit of depth from 0 to {DEPTH_MAX}: {depth!r}")
     return depth * 8192 + (256 << 10)
 
 
@@ -70,11 +71,11 @@ class Session(Commands):
         wanted, here = stack_for(depth), _stack_here()
         if here is not None and here < wanted:
             raise BadValue(f"a limit of depth of {depth} takes a stack of {wanted} bytes, and this thread has {here}: SessionThread makes one")
-        self._cedar, self._handle, self._thread, self.depth = _library(library), _Handle(), threading.get_ident(), depth
-        self._at, self._written = ctypes.byref(self._handle), ctypes.c_size_t()
+        self._cedar, self._handle, self._thread, self.depth = _library(library), ctypes.c_void_p(), threading.get_ident(), depth
+        self._written = ctypes.c_size_t()
         self._written_at = ctypes.byref(self._written)
         self._make_room(256)
-        self._want(self._cedar.cedar_open(self._at, depth))
+        self._want(self._cedar.cedar_new(ctypes.byref(self._handle), depth))
 
     def last_line(self) -> str:
         """The line that answers the last command, again where there was no memory for it. It changes nothing."""
@@ -91,12 +92,12 @@ class Session(Commands):
 
     def _exchange(self, verb: str, body: bytes) -> bytes:
         named = verb.encode()
-        self._want(self._cedar.cedar_command(self._at, named, len(named), body, len(body)))
+        self._want(self._cedar.cedar_command(self._handle, named, len(named), body, len(body)))
         return self._line()
 
     def _line(self) -> bytes:
         while True:
-            status = self._cedar.cedar_answer(self._at, self._output_at, self._room, self._written_at)
+            status = self._cedar.cedar_answer(self._handle, self._output_at, self._room, self._written_at)
             if status != _NO_ROOM:
                 self._want(status)
                 return ctypes.string_at(self._output_at, self._written.value)
@@ -104,29 +105,22 @@ class Session(Commands):
 
     def _want(self, status: int) -> None:
         if status != _DONE:
-            raise _ERRORS.get(status, CedarError)(self._text(status))
-
-    def _text(self, status: int) -> str:
-        text = getattr(self._cedar, "cedar_status_text", None)
-        if text is None:
-            return f"status {status}"
-        text.restype = ctypes.c_char_p
-        told: bytes = text(status) or b""
-        return told.decode(errors="replace")
+            raise _ERRORS.get(status, CedarError)(self._cedar.cedar_status_text(status).decode(errors="replace"))
 
     def _make_room(self, room: int) -> None:
         self._output, self._room = ctypes.create_string_buffer(room), room
         self._output_at = ctypes.addressof(self._output)
 
     def _end(self) -> None:
-        self._cedar.cedar_close(self._at)
+        # (a closed handle stays, so that what comes later is told NotOpen)
+        self._cedar.cedar_close(self._handle)
 
     def __del__(self) -> None:
         handle = getattr(self, "_handle", None)
-        if handle is None or handle.at is None:
+        if handle is None or handle.value is None:
             return
-        if threading.get_ident() == self._thread:
-            self._end()
+        if self._cedar.cedar_free(handle) == _DONE:
+            handle.value = None
         else:
             # On another thread nothing may be given back.
             warnings.warn(f"{self!r} was dropped on another thread than its own, and leaks", ResourceWarning, source=self)

@@ -8,6 +8,7 @@ import signal
 import threading
 import unittest
 import warnings
+from unittest import mock
 
 import cedar_session as cedar
 from cedar_session import UNKNOWN, Answer, Decision, Entity, Unknown, UnknownPart
@@ -240,16 +241,14 @@ class Sessions(Answers, Interrupted, unittest.TestCase):
 
     def test_no_limit_of_depth(self):
         for opened in (cedar.Session, cedar.SessionThread):
-            for depth in (-1, 2**32, 2**32 + 1, 256.0, None, True, "256"):
+            for depth in (-1, cedar.DEPTH_MAX + 1, 2**32, 2**32 + 1, 256.0, None, True, "256"):
                 with self.subTest(depth=depth), self.assertRaises(cedar.BadValue):
                     opened(depth=depth)
-        with self.assertRaises(cedar.BadValue):
-            cedar.SessionThread(depth=2**32 - 1)
         with cedar.Session(depth=0) as least:
             self.refused("Depth", least.load, ANY)
 
     def test_the_stack_carries_the_limit_of_depth(self):
-        """A thread of 1 MiB carries no limit of 256, and none is opened there."""
+        """A thread of 512 KiB (or four times as much, which another left) carries no limit of 256, and none is opened there."""
         caught = []
 
         def small():
@@ -260,7 +259,7 @@ class Sessions(Answers, Interrupted, unittest.TestCase):
             with cedar.SessionThread() as own:
                 caught.append(own.load(DEEP))
 
-        before = threading.stack_size(1 << 20)
+        before = threading.stack_size(1 << 19)
         try:
             thread = threading.Thread(target=small)
             thread.start()
@@ -269,8 +268,25 @@ class Sessions(Answers, Interrupted, unittest.TestCase):
             threading.stack_size(before)
         self.assertIn("SessionThread", caught[0])
         self.assertEqual(caught[1], ["policy0"])
-        with self.assertRaises(cedar.BadValue):
-            cedar.Session(depth=100_000)
+
+    def test_the_library_looks_at_the_stack_too(self):
+        caught = []
+
+        def small():
+            try:
+                cedar.Session()
+            except cedar.BadValue as why:
+                caught.append(str(why))
+
+        before = threading.stack_size(1 << 19)
+        try:
+            with mock.patch("cedar_session.session._stack_here", lambda: None):
+                thread = threading.Thread(target=small)
+                thread.start()
+                thread.join()
+        finally:
+            threading.stack_size(before)
+        self.assertIn("limit of depth", caught[0])
 
     def test_long_lines(self):
         ids = self.session.load(ANY * 1000)
@@ -319,6 +335,8 @@ class Sessions(Answers, Interrupted, unittest.TestCase):
         for path in ("/nonexistent.so", "libc.so.6"):
             with self.subTest(path=path), self.assertRaises(cedar.NoLibrary):
                 cedar.Session(library=path)
+        with mock.patch("cedar_session.session._VERSION", "0.9."), self.assertRaisesRegex(cedar.NoLibrary, "of version"):
+            cedar.Session()
 
     def test_a_forked_process_has_a_session_of_its_own(self):
         self.session.load(ANY)
@@ -333,8 +351,9 @@ class SessionThreads(Answers, Interrupted, AnyThread, unittest.TestCase):
         return cedar.SessionThread()
 
     def test_depth(self):
-        with cedar.SessionThread(depth=2_000) as deep:
-            deep.load("permit(principal, action, resource) when { " + "(" * 1_999 + "true" + ")" * 1_999 + " };")
+        with cedar.SessionThread(depth=cedar.DEPTH_MAX) as deep:
+            levels = cedar.DEPTH_MAX - 1
+            deep.load("permit(principal, action, resource) when { " + "(" * levels + "true" + ")" * levels + " };")
 
     def test_the_last_line(self):
         self.session.load(ANY)

@@ -23,10 +23,16 @@ pub enum Error {
     Line(String),
     /// No type of entities is named so; nothing has changed.
     Type(String),
+    /// The limit of depth is above [`crate::DEPTH_MAX`].
+    Depth(u32),
     /// The thread's stack is too small for the limit of depth, or no thread can have so much: bytes.
     Stack(usize),
+    /// The session is in the middle of a command, as where a signal handler comes into it; nothing has changed.
+    Busy,
+    /// The library is of another version: this one.
+    Library(String),
     /// The library answers by a status that isn't known here.
-    Status(u8),
+    Status(u32),
 }
 
 impl fmt::Display for Error {
@@ -38,7 +44,10 @@ impl fmt::Display for Error {
             Error::Ended => f.write_str("the session has ended"),
             Error::Line(line) => write!(f, "no line answers the command: {line:?}"),
             Error::Type(name) => write!(f, "no type of entities is named {name:?}"),
+            Error::Depth(depth) => write!(f, "the limit of depth {depth} is above the highest"),
             Error::Stack(bytes) => write!(f, "the limit of depth takes a stack of {bytes} bytes"),
+            Error::Busy => f.write_str("the session is in the middle of a command"),
+            Error::Library(version) => write!(f, "the library is of version {version}"),
             Error::Status(status) => write!(f, "status {status}"),
         }
     }

@@ -1,4 +1,4 @@
-//! Sessions of a Cedar authorizer, by its static library.
+//! Sessions of a Cedar authorizer, by its library for C.
 //!
 //! A [`Session`] stays on the thread that opens it, and is closed where it is dropped. A [`SessionThread`] keeps
 //! one on a thread of its own, with the stack that it needs, and may be sent to any thread. Questions and
@@ -27,6 +27,6 @@ mod values;
 
 pub use commands::{BODY_LIMIT, Commands, Error, Verb};
 pub use lines::{Answer, Decision, answer_of};
-pub use session::{DEPTH, Session, SessionThread};
+pub use session::{DEPTH, DEPTH_MAX, Session, SessionThread, library_version};
 pub use stack::stack_for;
 pub use values::{Entity, Listed, Part, Question, Record, Value, quoted};

@@ -2,71 +2,96 @@
 
 use crate::commands::{Commands, Error, Verb};
 use crate::stack::{stack_for, stack_here};
-use std::marker::PhantomData;
-use std::ptr;
+use std::ffi::{CStr, c_char};
+use std::ptr::{self, NonNull};
 use std::sync::mpsc::{Sender, channel};
 use std::thread::{Builder, JoinHandle};
 
 /// The limit of depth that the program has.
 pub const DEPTH: u32 = 256;
 
+/// The highest limit of depth.
+pub const DEPTH_MAX: u32 = 1024;
+
+/// The calls are those of the libraries whose version begins so.
+const VERSION: &str = "0.1.";
+
+/// What the library keeps.
 #[repr(C)]
 struct Handle {
-    at: *mut u8,
+    kept: [u8; 0],
 }
 
 unsafe extern "C" {
-    fn cedar_open(session: &mut Handle, depth: u32) -> u8;
+    fn cedar_new(session: &mut *mut Handle, depth: u32) -> u32;
     fn cedar_command(
-        session: &mut Handle,
+        session: *mut Handle,
         verb: *const u8,
         verb_length: usize,
         body: *const u8,
         body_length: usize,
-    ) -> u8;
-    fn cedar_answer(session: &mut Handle, output: *mut u8, output_length: usize, written: &mut usize) -> u8;
-    fn cedar_close(session: &mut Handle) -> u8;
+    ) -> u32;
+    fn cedar_answer(session: *mut Handle, output: *mut u8, output_length: usize, written: &mut usize) -> u32;
+    fn cedar_free(session: *mut Handle) -> u32;
+    fn cedar_version() -> *const c_char;
 }
 
-const DONE: u8 = 0;
-const NO_ROOM: u8 = 5;
+const DONE: u32 = 0;
+const NO_ROOM: u32 = 5;
 
-/// What a status other than [`DONE`] and [`NO_ROOM`] stands for. (A verb is always one.)
-fn error_of(status: u8) -> Error {
+/// What a status other than [`DONE`] and [`NO_ROOM`] stands for, by a limit of depth.
+fn error_of(status: u32, depth: u32) -> Error {
     match status {
-        2 => Error::TooLong,
         4 => Error::Memory,
         6 => Error::Ended,
+        9 => Error::TooLong,
+        10 => Error::Busy,
+        12 => Error::Stack(stack_for(depth)),
         other => Error::Status(other),
     }
 }
 
+/// The version of the library that is linked.
+pub fn library_version() -> String {
+    // SAFETY: the library answers a text that stays, and ends in a zero byte.
+    let version = unsafe { CStr::from_ptr(cedar_version()) };
+    version.to_string_lossy().into_owned()
+}
+
 /// A session that stays on the thread that opens it: it is neither `Send` nor `Sync`.
 pub struct Session {
-    handle: Handle,
+    handle: NonNull<Handle>,
+    depth: u32,
     output: Vec<u8>,
-    here: PhantomData<*mut u8>,
 }
 
 impl Session {
     /// A session without policies and entities, with this limit of depth.
     ///
-    /// [`Error::Stack`] where this thread's stack is too small for it, [`Error::Memory`] where there is no memory.
+    /// [`Error::Depth`] where it is above [`DEPTH_MAX`], [`Error::Stack`] where this thread's stack is too small
+    /// for it, [`Error::Library`] where the library is of another version, [`Error::Memory`] where there is no
+    /// memory.
     pub fn open(depth: u32) -> Result<Session, Error> {
         let wanted = stack_for(depth);
+        if depth > DEPTH_MAX {
+            return Err(Error::Depth(depth));
+        }
         if stack_here().is_some_and(|here| here < wanted) {
             return Err(Error::Stack(wanted));
         }
-        let mut handle = Handle { at: ptr::null_mut() };
-        // SAFETY: the handle is closed, as docs/C.md wants it.
-        match unsafe { cedar_open(&mut handle, depth) } {
-            DONE => Ok(Session {
-                handle,
-                output: vec![0; 256],
-                here: PhantomData,
-            }),
-            status => Err(error_of(status)),
+        let version = library_version();
+        if !version.starts_with(VERSION) {
+            return Err(Error::Library(version));
         }
+        let mut handle = ptr::null_mut();
+        // SAFETY: it writes the handle, or null.
+        let status = unsafe { cedar_new(&mut handle, depth) };
+        let handle = NonNull::new(handle).ok_or_else(|| error_of(status, depth))?;
+        Ok(Session {
+            handle,
+            depth,
+            output: vec![0; 256],
+        })
     }
 
     /// The line that answers the last command, without its line feed; nothing before the first. It changes nothing.
@@ -75,10 +100,10 @@ impl Session {
         loop {
             let (at, room) = (self.output.as_mut_ptr(), self.output.len());
             // SAFETY: the output has so much room, and the handle is this session's.
-            match unsafe { cedar_answer(&mut self.handle, at, room, &mut written) } {
+            match unsafe { cedar_answer(self.handle.as_ptr(), at, room, &mut written) } {
                 DONE => break,
                 NO_ROOM => self.output.resize(written, 0),
-                status => return Err(error_of(status)),
+                status => return Err(error_of(status, self.depth)),
             }
         }
         let line = self.output.get(..written).unwrap_or_default();
@@ -93,7 +118,7 @@ impl Commands for Session {
         // SAFETY: each pointer is to as many bytes as are told, and the handle is this session's.
         match unsafe {
             cedar_command(
-                &mut self.handle,
+                self.handle.as_ptr(),
                 name.as_ptr(),
                 name.len(),
                 body.as_ptr(),
@@ -101,7 +126,7 @@ impl Commands for Session {
             )
         } {
             DONE => self.last_line(),
-            status => Err(error_of(status)),
+            status => Err(error_of(status, self.depth)),
         }
     }
 }
@@ -109,7 +134,7 @@ impl Commands for Session {
 impl Drop for Session {
     fn drop(&mut self) {
         // SAFETY: the handle is this session's, on its thread.
-        unsafe { cedar_close(&mut self.handle) };
+        unsafe { cedar_free(self.handle.as_ptr()) };
     }
 }
 
@@ -128,8 +153,11 @@ pub struct SessionThread {
 impl SessionThread {
     /// A session with this limit of depth, on a thread with the stack that it takes.
     ///
-    /// [`Error::Stack`] where no thread can have so much, [`Error::Memory`] where there is no memory.
+    /// As [`Session::open`]; [`Error::Stack`] where no thread can have so much.
     pub fn open(depth: u32) -> Result<SessionThread, Error> {
+        if depth > DEPTH_MAX {
+            return Err(Error::Depth(depth));
+        }
         let (jobs, taken) = channel::<Job>();
         let (opened, is_open) = channel();
         let work = move || match Session::open(depth) {

@@ -1,8 +1,8 @@
-//! Tests of the client, over the archives that `CEDAR_ARCHIVES` names.
+//! Tests of the client, over the archive that `CEDAR_ARCHIVE` names.
 
 use cedar_session::{
-    Answer, BODY_LIMIT, Commands, DEPTH, Decision, Entity, Error, Listed, Part, Question, Record, Session,
-    SessionThread, Value, Verb, answer_of,
+    Answer, BODY_LIMIT, Commands, DEPTH, DEPTH_MAX, Decision, Entity, Error, Listed, Part, Question, Record,
+    Session, SessionThread, Value, Verb, answer_of, library_version,
 };
 use std::thread::{self, Builder};
 
@@ -172,6 +172,11 @@ fn refusals() -> Result<(), Error> {
 }
 
 #[test]
+fn version() {
+    assert!(library_version().starts_with("0.1."));
+}
+
+#[test]
 fn long_lines() -> Result<(), Error> {
     let mut session = SessionThread::open(DEPTH)?;
     assert_eq!(session.load(&ANY.repeat(1000))?.len(), 1000);
@@ -197,20 +202,22 @@ fn threads() -> Result<(), Error> {
 /// Neither the least nor a great limit of depth ends the process: a stack that doesn't carry it is told.
 #[test]
 fn stacks() -> Result<(), Error> {
-    for depth in [8, DEPTH, 2_000] {
+    for depth in [8, DEPTH, DEPTH_MAX] {
         let mut session = SessionThread::open(depth)?;
         assert_eq!(session.load(&deep(depth as usize - 1))?, ["policy0"]);
     }
-    assert!(matches!(SessionThread::open(u32::MAX), Err(Error::Stack(_))));
-    on_a_thread(|_| {
-        assert!(matches!(Session::open(100_000), Err(Error::Stack(_))));
-        Ok(())
-    })?;
-    let small = Builder::new()
-        .stack_size(1 << 20)
-        .spawn(|| Session::open(DEPTH).err());
-    let why = small.expect("a thread").join().expect("no panic");
-    assert!(matches!(why, Some(Error::Stack(_))));
+    for depth in [DEPTH_MAX + 1, u32::MAX] {
+        assert!(matches!(SessionThread::open(depth), Err(Error::Depth(_))));
+        assert!(matches!(Session::open(depth), Err(Error::Depth(_))));
+    }
+    // (a thread may get the stack that another left, up to four times as large)
+    for depth in [DEPTH, DEPTH_MAX] {
+        let small = Builder::new()
+            .stack_size(512 << 10)
+            .spawn(move || Session::open(depth).err());
+        let why = small.expect("a thread").join().expect("no panic");
+        assert!(matches!(why, Some(Error::Stack(_))));
+    }
     Ok(())
 }
 

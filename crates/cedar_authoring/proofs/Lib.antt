@@ -1,6 +1,8 @@
 pub mod Adding
 mod Awaited
+mod Below
 mod Checked
+mod Fitting
 pub mod Lending
 pub mod LinesRead
 mod NamesLeft

@@ -1,6 +1,7 @@
 -- Sessions that are given one more command, or further ones, and scripts of one more test.
-use Rattle.std.proofs.Common.{◌≡◌, ◌↔◌, ℕ, suc, ◌+◌, ◌<◌, codes, Bool, true, false, not, cond, ◌&&◌, List, [], ◌∷◌, ◌++◌, map, length, take, get_or, string_bytes, count_by, refl, sym, ap, subst, ◌∙◌, append_assoc, arith}
+use Rattle.std.proofs.Common.{◌≡◌, ◌↔◌, ℕ, suc, ◌+◌, ◌<◌, codes, Bool, true, false, not, cond, ◌&&◌, List, [], ◌∷◌, ◌++◌, map, length, take, get_or, string_bytes, count_by, All, refl, sym, ap, subst, ◌∙◌, append_assoc, arith}
 use Rattle.std.proofs.lemmas.List.{append-nil, take_more, map-append, length-map}
+use Rattle.std.proofs.lemmas.List.Elements.{All-append, All-cons}
 use Rattle.std.proofs.lemmas.List.Sums.{sum_by-append}
 use Rattle.std.specs.Fmt.{decimal}
 use Rattle.std.specs.Int.{from_bool}
@@ -13,7 +14,7 @@ use Rattle.cedar_session.specs.Programs.{IsProgramSetting}
 use Rattle.cedar_authoring.specs.declared.scripts.script.Script.{Script}
 use Rattle.cedar_authoring.specs.declared.scripts.script.Step.{Step}
 use Rattle.cedar_authoring.specs.declared.scripts.script.Test.{Test}
-use Rattle.cedar_authoring.specs.Scripts.{AreAnswered, IsAnswered, Passes, TellsScript, TellsTest, TellsTests, answers_step, as_expected, command_of, failed_of, passed_of}
+use Rattle.cedar_authoring.specs.Scripts.{AreAnswered, IsAnswered, IsFed, Passes, TellsScript, TellsTest, TellsTests, answers_step, as_expected, command_of, failed_of, passed_of}
 use Rattle.cedar_authoring.specs.Telling.{Adds}
 
 -- ---- replies
@@ -60,8 +61,11 @@ module _ (by : Setting) where
   Answers-append no_command later = later
   Answers-append (a_command step others) later = a_command step (Answers-append others later)
 
+  no_reply : All IsFed []
+  no_reply k d within = absurd (omega (arith, within))
+
   pub nothing_answered : (world : World) → AreAnswered by world [] world true
-  nothing_answered world = record { replies = []; answered = no_command; expected = refl }
+  nothing_answered world = record { replies = []; answered = no_command; expected = refl; fed = no_reply }
 
   -- first these commands, then those
   pub AreAnswered-append : (old mid new : World) (ss ts : List Step) (a b : Bool) → AreAnswered by old ss mid a → AreAnswered by mid ts new b → AreAnswered by old (ss ++ ts) new (a && b)
@@ -72,6 +76,7 @@ module _ (by : Setting) where
         replies = first.replies ++ later.replies;
         answered = subst P (sym (map-append command_of ss ts)) (Answers-append first.answered later.answered);
         expected = ap (λ x. x && b) first.expected ∙ (ap (λ y. as_expected ss first.replies && y) later.expected ∙ sym (expected-append ss ts first.replies later.replies long));
+        fed = All-append IsFed first.replies later.replies first.fed later.fed;
       }
 
   one_answered : (old new : World) (s : Step) (b : Bool) → IsAnswered by old s new b → AreAnswered by old (s ∷ []) new b
@@ -79,6 +84,7 @@ module _ (by : Setting) where
     replies = one.0 ∷ [];
     answered = a_command one.1 no_command;
     expected = one.2 ∙ sym (and_true (answers_step s one.0));
+    fed = All-cons IsFed one.0 [] one.3 no_reply;
   }
 
   -- one more of a list of commands

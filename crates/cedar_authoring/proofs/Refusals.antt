@@ -1,9 +1,12 @@
 -- What a report says of a question that is answered, or of a text that is refused.
-use Rattle.std.proofs.Common.{◌≡◌, ◌∙◌, ◌⊎◌, ℕ, Option, Some, None, Result, Ok, Err, IfOk, inl, inr, refl, subst, arith}
+use Rattle.std.proofs.Common.{◌≡◌, ◌∙◌, ◌⊎◌, ℕ, true, Option, Some, None, Result, Ok, Err, IfNone, IfOk, IfSome, inl, inr, refl, subst, arith}
 use Rattle.cedar_language.specs.Answering.{Decision, Allow, Deny}
 use Rattle.cedar_language.specs.Uid.{Text}
 use Rattle.cedar_frames.specs.declared.verb.Verb.{Verb}
 use Rattle.cedar_replies.specs.Refusals.{refusal_of}
+use Rattle.cedar_replies.specs.Replies.{accepted}
+use Rattle.cedar_replies.specs.declared.answer.Reply.{Reply}
+use Rattle.cedar_replies.specs.declared.answer.Reply.TheVariants.{Done, Ids, Answer}
 use Rattle.cedar_replies.specs.declared.refusal.Refusal.{Refusal}
 use Rattle.cedar_replies.specs.declared.refusal.Refusal.TheVariants as refusals
 use Rattle.cedar_world.specs.Commands as world
@@ -11,6 +14,9 @@ use Rattle.cedar_world.specs.Setting.{Setting}
 use Rattle.cedar_world.specs.Step.{Step}
 use Rattle.cedar_world.specs.World.{World}
 use Rattle.cedar_authoring.specs.Explaining.{status_of}
+use Rattle.cedar_authoring.specs.RefusedBodies.{IsBodyWithin, TellsBody, TellsOfAPart, a_part, is_for_a_part}
+use Rattle.cedar_authoring.specs.Scripts.{IsFed}
+use Rattle.cedar_authoring.specs.declared.giving.Source.{Source}
 
 pub never_one : (d : Option Decision) → status_of d ≡ 1 → ⊥
 never_one (Some Allow) is = omega (arith, is)
@@ -48,13 +54,31 @@ other_refusal refusals.AlreadyTold other is = absurd (cc)
 other_refusal refusals.WrongKind other is = absurd (cc)
 other_refusal refusals.Memory other is = other refl
 
+-- ---- replies
+
+pub accepted_fed : (r : Reply) → IsFed (accepted r)
+accepted_fed Done is = absurd (cc)
+accepted_fed (Ids ids) is = absurd (cc)
+accepted_fed (Answer answer) is = absurd (cc)
+
+pub refused_fed : (r : Refusal) → (r ≡ refusals.Memory → ⊥) → IsFed (world.Refused (refusal_of r))
+refused_fed r other is = let same : refusal_of r ≡ world.Memory = cc in other_refusal r other same
+
 -- ---- results
 
--- what follows where a refusal isn't want of memory
-pub unless_memory : {A E X : Type 0} (result : Result A E) (r s : Refusal) (P : A → Type 0) → s ≡ r → IfOk result (λ x. s ≡ refusals.Memory → ⊥)
-    → ((refusal_of r ≡ world.Memory → ⊥) → X) → IfOk result (λ x. P x → X)
-unless_memory (Ok x) r s P same other make = λ is. make (other_refusal r (λ e. other (same ∙ e)))
-unless_memory (Err e) r s P same other make = other
+-- what follows of what is told where a refusal isn't want of memory
+pub unless_memory : {A E : Type 0} (result : Result A E) (r s : Refusal) (P Q R : A → Type 0) → s ≡ r → IfOk result (λ x. s ≡ refusals.Memory → ⊥)
+    → IfOk result Q → ((x : A) → (refusal_of r ≡ world.Memory → ⊥) → Q x → R x) → IfOk result (λ x. P x → R x)
+unless_memory (Ok x) r s P Q R same other told make = λ is. make x (other_refusal r (λ e. other (same ∙ e))) told
+unless_memory (Err e) r s P Q R same other told make = other
+
+-- what is told of a body, by the source that a command has
+pub body_told : (by : Setting) (s t : Source) (r q : Refusal) (told : Text) → s ≡ t → r ≡ q → TellsBody by s.name.now s.text.now (refusal_of r) told
+    → TellsBody by t.name.now t.text.now (refusal_of q) told
+body_told by s t r q told same is h =
+    let P : Source → Type 0 = λ x. TellsBody by x.name.now x.text.now (refusal_of q) told in
+    let Q : Refusal → Type 0 = λ x. TellsBody by s.name.now s.text.now (refusal_of x) told in
+    subst P same (subst Q is h)
 
 pub both_ok : {A E : Type 0} (result : Result A E) (P Q R : A → Type 0) → ((x : A) → P x → Q x → R x) → IfOk result P → IfOk result Q → IfOk result R
 both_ok (Ok x) P Q R make p q = make x p q
@@ -64,3 +88,17 @@ both_ok (Err e) P Q R make p q = p
 pub stepped : (s by : Setting) (here old new : World) (verb : Verb) (text : Text) (reply : world.Reply) → s ≡ by → here ≡ old → Step s here verb text reply new → Step by old verb text reply new
 stepped s by here old new verb text reply same is step =
     subst (λ (w : World). Step by w verb text reply new) is (subst (λ (t : Setting). Step t here verb text reply new) same step)
+
+-- what is told of a part, where one was found
+pub part_found : {S E : Type 0} (bytes : S → Text) (by : Setting) (name text : Text) (r : world.Refusal) (result : Result (Option S) E) → IsBodyWithin by text
+    → IfOk result (λ found. IfSome found (λ told. is_for_a_part r ≡ true)) → IfOk result (λ found. IfSome found (λ told. TellsOfAPart name (bytes told)))
+    → IfOk result (λ found. IfSome found (λ told. TellsBody by name text r (bytes told)))
+part_found bytes by name text r (Ok (Some told)) is part tells = a_part is part tells
+part_found bytes by name text r (Ok None) is part tells = tells
+part_found bytes by name text r (Err e) is part tells = tells
+
+-- what is so in any case, where none was found
+pub where_none : {A E : Type 0} (result : Result (Option A) E) (X : Type 0) → X → IfOk result (λ found. IfNone found X)
+where_none (Ok (Some a)) X x = tt
+where_none (Ok None) X x = x
+where_none (Err e) X x = tt

@@ -1,5 +1,6 @@
 -- What is told of a question: what a session answers, and how each policy stands.
-use Rattle.std.specs.Prelude.{◌≡◌, ◌≢◌, ◌⊎◌, ◌<◌, ℕ, List, [], ◌++◌, length, None, Option, Some, IsUtf8}
+use Rattle.std.specs.Prelude.{◌≡◌, ◌≢◌, ◌⊎◌, ◌<◌, ℕ, List, [], ◌++◌, length, MatchOption, None, Option, Some, IsUtf8}
+use Rattle.std.specs.Str.Lossy.{utf8_valid_len}
 use Rattle.cedar_language.specs.Answering.{Decision, Allow, Deny}
 use Rattle.cedar_language.specs.Uid.{Text}
 use Rattle.cedar_frames.specs.Heads.{body_limit}
@@ -13,9 +14,12 @@ use Rattle.cedar_world.specs.Step.{Step}
 use Rattle.cedar_world.specs.World.{World, new_world, Policies, in_force_at}
 use Rattle.cedar_session.specs.Lending.{IsResponse}
 use Rattle.cedar_session.specs.Programs.{IsProgramSetting}
+use Rattle.cedar_authoring.specs.Checks.{TellsFaults}
 use Rattle.cedar_authoring.specs.Names.{TellsNames}
+use Rattle.cedar_authoring.specs.Places.{position_at}
+use Rattle.cedar_authoring.specs.RefusedBodies.{TellsBody}
 use Rattle.cedar_authoring.specs.Standing.{TellsStanding}
-use Rattle.cedar_authoring.specs.Telling.{TellsEach}
+use Rattle.cedar_authoring.specs.Telling.{TellsEach, TellsOf}
 
 -- what a status says of what is decided
 abbrev pub status_of : Option Decision → ℕ
@@ -26,7 +30,7 @@ status_of None = 3
 -- nothing is told of a template, and of a policy in force how it stands
 abbrev pub TellsOne : Text → Policies → PartialResponse → Text → Text → Type 0
 TellsOne name policies response id told =
-    ((in_force_at policies id ≡ None) × (told ≡ [])) ⊎ TellsStanding name response id told
+    MatchOption (in_force_at policies id) (told ≡ []) (λ policy. TellsStanding name response id told)
 
 abbrev pub TellsPolicies : Text → Policies → PartialResponse → List Text → Text → Type 0
 TellsPolicies name policies response ids told = TellsEach (TellsOne name policies response) ids told
@@ -56,22 +60,38 @@ pub record TellsExplained (name policies entities question : Text) (status : ℕ
   pub tells : TellsAnswered name by asked ids answer told
   pub decides : status ≡ status_of answer.decision
 
--- bytes that are no command's text
-abbrev pub IsNoText : Text → Type 0
-IsNoText bytes = (IsUtf8 bytes → ⊥) ⊎ (body_limit < length bytes)
+-- ---- refusals
 
--- a command is refused, and not for memory
-abbrev pub Refuses : Setting → World → Verb → Text → Type 0
-Refuses by old verb text = (new : World) × (r : Refusal) × (r ≢ Memory) × Step by old verb text (Refused r) new
+-- a text, and the name by which it is told of
+pub record Titled : Type 0 where
+  pub name : Text
+  pub text : Text
 
--- A session that was just made refuses one of these texts, which it is given in their order.
-pub data SomeRefused (by : Setting) (policies entities question : Text) : Type 0 where
-  policies_refused : Refuses by new_world Load policies → SomeRefused by policies entities question
-  entities_refused : (ids : List Text) (loaded : World) → Step by new_world Load policies (Named ids) loaded → Refuses by loaded Put entities → SomeRefused by policies entities question
-  question_refused : (ids : List Text) (loaded held : World) → Step by new_world Load policies (Named ids) loaded → Step by loaded Put entities Done held
-      → Refuses by held Ask question → SomeRefused by policies entities question
+-- Bytes that are no command's text: the first that shows it is told, or that they are too many.
+abbrev pub TellsNoText : Titled → Text → Type 0
+TellsNoText of told =
+    ((IsUtf8 of.text → ⊥) × TellsOf of.name (Some (position_at of.text (utf8_valid_len of.text))) told)
+    ⊎ (IsUtf8 of.text × (body_limit < length of.text) × TellsOf of.name None told)
 
--- One of the three is no text, or a session refuses it.
-abbrev pub IsUnexplained : Text → Text → Text → Type 0
-IsUnexplained policies entities question =
-    (IsNoText policies ⊎ IsNoText entities ⊎ IsNoText question) ⊎ ((by : Setting) × IsProgramSetting by × SomeRefused by policies entities question)
+-- A command is refused, and not for memory, of which this holds.
+abbrev pub Refuses : Setting → World → Verb → Text → (Refusal → Type 0) → Type 0
+Refuses by old verb text Holds = (new : World) × (r : Refusal) × (r ≢ Memory) × Step by old verb text (Refused r) new × Holds r
+
+-- A session that was just made refuses one of these texts, which it is given in their order, and that is told: of
+-- policies as a check tells it.
+pub data TellsRefusal (by : Setting) (policies entities question : Titled) (told : Text) : Type 0 where
+  policies_refused : Refuses by new_world Load policies.text (λ r. TellsFaults policies.name policies.text told)
+      → TellsRefusal by policies entities question told
+  entities_refused : (ids : List Text) (loaded : World) → Step by new_world Load policies.text (Named ids) loaded
+      → Refuses by loaded Put entities.text (λ r. TellsBody by entities.name entities.text r told)
+      → TellsRefusal by policies entities question told
+  question_refused : (ids : List Text) (loaded held : World) → Step by new_world Load policies.text (Named ids) loaded
+      → Step by loaded Put entities.text Done held
+      → Refuses by held Ask question.text (λ r. TellsBody by question.name question.text r told)
+      → TellsRefusal by policies entities question told
+
+-- One of the three is no text, or a session refuses it, and that is told.
+abbrev pub TellsUnexplained : Titled → Titled → Titled → Text → Type 0
+TellsUnexplained policies entities question told =
+    (TellsNoText policies told ⊎ TellsNoText entities told ⊎ TellsNoText question told)
+    ⊎ ((by : Setting) × IsProgramSetting by × TellsRefusal by policies entities question told)

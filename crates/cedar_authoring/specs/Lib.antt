@@ -4,6 +4,7 @@ pub mod Explaining
 pub mod Faults
 pub mod Names
 pub mod Places
+pub mod RefusedBodies
 pub mod ScriptFaults
 pub mod ScriptLaws
 pub mod ScriptLines
@@ -13,3 +14,4 @@ pub mod Spoken
 pub mod Standing
 pub mod StandingWords
 pub mod Telling
+pub mod Titles

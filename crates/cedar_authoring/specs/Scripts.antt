@@ -1,10 +1,10 @@
 -- Scripts of commands: what their tests pass by, and what is told of them.
-use Rattle.std.specs.Prelude.{◌≡◌, ◌↔◌, ◌<◌, ◌≤◌, ℕ, List, [], ◌∷◌, ◌++◌, map, length, slice_index, codes, Bool, true, false, not, ◌&&◌, ◌||◌, ◌==◌, nat_eq, count_by, All, Option, Some, None, option_map, string_bytes}
-use Rattle.std.specs.List.{starts_with}
+use Rattle.std.specs.Prelude.{◌≡◌, ◌≢◌, ◌↔◌, ◌⊎◌, ◌<◌, ◌≤◌, ℕ, List, [], ◌∷◌, ◌++◌, map, length, slice_index, codes, Bool, true, false, not, ◌&&◌, ◌||◌, ◌==◌, nat_eq, count_by, All, Option, Some, None, option_map, string_bytes}
+use Rattle.std.specs.List.{Contains, starts_with}
 use Rattle.std.specs.Fmt.{decimal}
 use Rattle.cedar_language.specs.Uid.{Text}
 use Rattle.cedar_frames.specs.Heads.{body_limit}
-use Rattle.cedar_world.specs.Commands.{Reply, Refused}
+use Rattle.cedar_world.specs.Commands.{Memory, Reply, Refused}
 use Rattle.cedar_world.specs.Lines.{line_of}
 use Rattle.cedar_world.specs.Session.{Command, Answers}
 use Rattle.cedar_world.specs.Setting.{Setting}
@@ -14,6 +14,7 @@ use Rattle.cedar_session.specs.Programs.{IsProgramSetting}
 use Rattle.cedar_authoring.specs.declared.scripts.script.Step.{Step}
 use Rattle.cedar_authoring.specs.declared.scripts.script.Test.{Test}
 use Rattle.cedar_authoring.specs.declared.scripts.script.Script.{Script}
+use Rattle.cedar_authoring.specs.Telling.{AreBelow}
 
 -- ---- steps
 
@@ -45,15 +46,21 @@ as_expected _ _ = false
 
 -- ---- sessions
 
--- A session is given the command of a step, and this says whether it is answered as is expected.
+-- a reply, but that memory is wanting
+abbrev pub IsFed : Reply → Type 0
+IsFed reply = reply ≢ Refused Memory
+
+-- A session, which has the memory, is given the command of a step, and this says whether it is answered as is expected.
 abbrev pub IsAnswered : Setting → World → Step → World → Bool → Type 0
-IsAnswered by old s new fine = (reply : Reply) × Steps by old s.verb (string_bytes s.body) reply new × (fine ≡ answers_step s reply)
+IsAnswered by old s new fine =
+    (reply : Reply) × Steps by old s.verb (string_bytes s.body) reply new × (fine ≡ answers_step s reply) × IsFed reply
 
 -- It is given these commands, and this says whether each is answered so.
 pub record AreAnswered (by : Setting) (old : World) (steps : List Step) (new : World) (fine : Bool) : Type 0 where
   pub replies : List Reply
   pub answered : Answers by old (map command_of steps) replies new
   pub expected : fine ≡ as_expected steps replies
+  pub fed : All IsFed replies
 
 -- ---- tests
 
@@ -64,7 +71,7 @@ Passes by steps passed = (new : World) × AreAnswered by new_world steps new pas
 -- the line of a test that passed, and that of one that failed, with what was answered otherwise below it
 abbrev pub TellsTest : Text → Bool → Text → Type 0
 TellsTest name true told = told ≡ (codes "ok   " ++ name) ++ codes "\n"
-TellsTest name false told = (more : Text) × (told ≡ ((codes "FAIL " ++ name) ++ codes "\n") ++ more)
+TellsTest name false told = (more : Text) × AreBelow more × (told ≡ ((codes "FAIL " ++ name) ++ codes "\n") ++ more)
 
 -- Each test ran in a session of its own, which was given the set-up first, and is told of.
 abbrev pub TellsTests : Setting → List Step → List Test → List Bool → Text → Type 0
@@ -75,6 +82,16 @@ TellsTests by set_up (t ∷ ts) (p ∷ ps) told =
 TellsTests by set_up _ _ told = ⊥
 
 -- ---- scripts
+
+-- a command of a script
+abbrev pub HasStep : Script → Step → Type 0
+HasStep script s = Contains script.set_up.items s ⊎ ((t : Test) × Contains script.tests.items t × Contains t.steps.items s)
+
+-- a line tells of a command of the script whose text is too long
+abbrev pub TellsLong : Text → Script → Text → Type 0
+TellsLong name script told =
+    (s : Step) × HasStep script s × (FitsCommand s → ⊥)
+    × (told ≡ ((name ++ codes ":") ++ decimal s.line) ++ codes ": the text is longer than 1,048,576 bytes\n")
 
 -- each text is one that a command may have
 abbrev pub Fits : Script → Type 0

@@ -6,7 +6,7 @@ use Rattle.cedar_language.specs.Uid.{Text}
 use Rattle.cedar_evaluator.specs.Holding.{error_seen}
 use Rattle.cedar_evaluator.specs.declared.partial_response.PartialResponse.{PartialResponse}
 use Rattle.cedar_authoring.specs.declared.places.Position.{Position}
-use Rattle.cedar_authoring.specs.Telling.{line_of}
+use Rattle.cedar_authoring.specs.Telling.{line_of, AreBelow, IsLine}
 
 -- a group of policies has one of this id
 abbrev pub is_in : {V : Type 0} → Text → List (Text × V) → Bool
@@ -30,8 +30,8 @@ module _ (response : PartialResponse) (id : Text) where
       if is_satisfied then codes " is satisfied"
       else (if is_open then codes " is open" else (if has_erred then codes " errs" else codes " is not satisfied"))
 
--- A line begins with the id and ends with how the policy stands, and further lines perhaps show more.
+-- A line begins with the id and ends with how the policy stands, and lines below it perhaps show more.
 abbrev pub TellsStanding : Text → PartialResponse → Text → Text → Type 0
 TellsStanding name response id told =
-    (place : Option Position) × (what below : Text)
+    (place : Option Position) × (what below : Text) × IsLine what × AreBelow below
     × (told ≡ line_of name place (((id ++ codes " ") ++ what) ++ standing_words response id) ++ below)

@@ -1,8 +1,22 @@
 -- What is told of a text: lines that begin with its name, and with a place in it.
-use Rattle.std.specs.Prelude.{◌≡◌, List, [], ◌∷◌, ◌++◌, codes, Option, Some, None}
+use Rattle.std.specs.Prelude.{◌≡◌, List, [], ◌∷◌, ◌++◌, codes, All, Option, Some, None}
 use Rattle.std.specs.Fmt.{decimal}
+use Rattle.std.specs.List.{flat_map}
 use Rattle.cedar_language.specs.Uid.{Text}
 use Rattle.cedar_authoring.specs.declared.places.Position.{Position}
+use Rattle.cedar_authoring.specs.Places.{line_feeds}
+
+-- it has no line feed
+abbrev pub IsLine : Text → Type 0
+IsLine text = line_feeds text ≡ 0
+
+-- a line that stands below another, behind a space
+abbrev pub below : Text → Text
+below line = (codes " " ++ line) ++ codes "\n"
+
+-- lines that stand below another
+abbrev pub AreBelow : Text → Type 0
+AreBelow told = (lines : List Text) × All IsLine lines × (told ≡ flat_map below lines)
 
 -- `NAME:LINE:COLUMN: `, or `NAME: ` where no place is known
 abbrev pub heading : Text → Option Position → Text
@@ -13,9 +27,9 @@ heading name (Some at) = (((name ++ (codes ":" ++ decimal at.line)) ++ codes ":"
 abbrev pub line_of : Text → Option Position → Text → Text
 line_of name place message = (heading name place ++ message) ++ codes "\n"
 
--- A line says a message of a place, and further lines perhaps show more.
+-- A line says a message of a place, and lines below it perhaps show more.
 abbrev pub TellsOf : Text → Option Position → Text → Type 0
-TellsOf name place told = (message further : Text) × (told ≡ line_of name place message ++ further)
+TellsOf name place told = (message further : Text) × IsLine message × AreBelow further × (told ≡ line_of name place message ++ further)
 
 -- Something is told of each of these, of one behind the other.
 abbrev pub TellsEach : {X : Type 0} → (X → Text → Type 0) → List X → Text → Type 0

@@ -7,12 +7,12 @@ ghost use Rattle.cedar_session.specs.Programs.{setting_within};
 ghost use Rattle.cedar_authoring.specs.Checks.{TellsFine, TellsFaults, TellsUnloaded, TellsRefused, IsUnread};
 ghost use Rattle.cedar_authoring.specs.Telling.{TellsOf};
 
-use crate::faults::tell_faults;
+use crate::faults::tell_unread;
 use crate::listing::tell_policies;
 use crate::places::{Position, position_in};
 use crate::telling::tell;
 use cedar_parser::PolicySet;
-use cedar_parser::err::{ParseError, ParseErrors};
+use cedar_parser::err::ParseErrors;
 use cedar_parser::strict::parse_policyset;
 use cedar_session::{BODY_LIMIT, Extensions, Session};
 use std::alloc::{AllocError, Global};
@@ -89,7 +89,7 @@ fn load(
 }
 
 /// Tells why a text isn't read, unless that is want of memory.
-fn refuse_unread(
+pub(crate) fn refuse_unread(
     alloc: Global,
     name: &str,
     text: &str,
@@ -101,10 +101,7 @@ fn refuse_unread(
     ensures faults { IfOk result (λ report. TellsFaults name.now text.now (string_bytes report.text)) }
     ensures status { IfOk result (λ report. report.status ≡ 1) }
 {
-    if let ParseError::Memory = errors.0.head {
-        return Err(AllocError);
-    }
-    let told = tell_faults(alloc, name, text, errors)?;
+    let told = tell_unread(alloc, name, text, errors)?;
     Ok(refused(told))
 }
 

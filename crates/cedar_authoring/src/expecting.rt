@@ -1,8 +1,10 @@
 // What commands must be answered, and whether they are.
-ghost use Rattle.std.specs.Prelude.{◌≡◌, All, string_bytes, IfOk, IfNone, OnOk};
+ghost use Rattle.std.specs.Prelude.{◌≡◌, ◌≢◌, All, string_bytes, IfOk, IfNone, IfSome, OnOk};
+ghost use Rattle.std.specs.List.{Contains};
 ghost use Rattle.cedar_replies.specs.Replies.{reply_of};
-ghost use Rattle.cedar_authoring.specs.Scripts.{Fits, FitsCommand, TellsTest, answers_step, says};
-ghost use Rattle.cedar_authoring.specs.Telling.{Adds};
+ghost use Rattle.cedar_replies.specs.declared.refusal.Refusal.TheVariants as refusals;
+ghost use Rattle.cedar_authoring.specs.Scripts.{Fits, FitsCommand, HasStep, IsFed, TellsTest, answers_step, says};
+ghost use Rattle.cedar_authoring.specs.Telling.{Adds, AreBelow};
 
 use crate::scripts::{Script, Step};
 use cedar_session::{BODY_LIMIT, Refusal, Reply, line_in_memory};
@@ -14,16 +16,35 @@ pub(crate) fn is_expected(
     step: &Step,
     outcome: &Result<Reply, Refusal>,
 ) -> Result<bool, AllocError>
-    ensures { IfOk result (λ fine. fine ≡ answers_step step.now (reply_of outcome.now)) }
+    ensures fine { IfOk result (λ fine. fine ≡ answers_step step.now (reply_of outcome.now)) }
+    ensures fed { IfOk result (λ fine. IsFed (reply_of outcome.now)) }
 {
-    if let Err(Refusal::Memory) = outcome {
-        return Err(AllocError);
-    }
+    had_memory(outcome)?;
     let Some(words) = &step.expected else {
         return Ok(outcome.is_ok());
     };
     let line = line_in_memory(alloc, outcome)?;
     Ok(says(words.as_bytes(), line.as_slice()))
+}
+
+/// Refused where a command is refused for want of memory.
+fn had_memory(outcome: &Result<Reply, Refusal>) -> Result<(), AllocError>
+    ensures { OnOk result (IsFed (reply_of outcome.now)) }
+{
+    match outcome {
+        Ok(_) => Ok(()),
+        Err(refusal) => unless_memory(*refusal),
+    }
+}
+
+/// Refused where this is want of memory.
+pub(crate) fn unless_memory(refusal: Refusal) -> Result<(), AllocError>
+    ensures { OnOk result (refusal ≢ refusals.Memory) }
+{
+    match refusal {
+        Refusal::Memory => Err(AllocError),
+        _ => Ok(()),
+    }
 }
 
 /// Whether the line begins with these words, and a space or its line feed stands behind them.
@@ -39,7 +60,10 @@ fn says(words: &[u8], line: &[u8]) -> bool
 
 /// The first command whose text is longer than one may be.
 pub(crate) fn first_long(script: &Script) -> Option<&Step>
-    ensures { IfNone result (Fits script.now) }
+    ensures none { IfNone result (Fits script.now) }
+    ensures long { IfSome result (λ step. FitsCommand step.now → ⊥) }
+    ensures among { IfSome result (λ step. HasStep script.now step.now) }
+    ensures some { IfSome result (λ step. Fits script.now → ⊥) }
 {
     if let Some(step) = long_among(script.set_up.as_slice()) {
         return Some(step);
@@ -53,7 +77,10 @@ pub(crate) fn first_long(script: &Script) -> Option<&Step>
 }
 
 fn long_among(steps: &[Step]) -> Option<&Step>
-    ensures { IfNone result (All FitsCommand steps.now) }
+    ensures none { IfNone result (All FitsCommand steps.now) }
+    ensures long { IfSome result (λ step. FitsCommand step.now → ⊥) }
+    ensures among { IfSome result (λ step. Contains steps.now step.now) }
+    ensures some { IfSome result (λ step. All FitsCommand steps.now → ⊥) }
 {
     for step in steps {
         if step.body.len() > BODY_LIMIT {
@@ -70,7 +97,7 @@ pub(crate) fn tell_test(
     passed: bool,
     wrong: &str,
 ) -> Result<(), AllocError>
-    ensures { OnOk result (Adds (TellsTest name.now passed) (string_bytes told.old) (string_bytes told.new)) }
+    ensures { AreBelow wrong.now → OnOk result (Adds (TellsTest name.now passed) (string_bytes told.old) (string_bytes told.new)) }
 {
     if passed {
         told.push_str("ok   ")?;

@@ -1,27 +1,34 @@
 // What decides a question, policy by policy.
-ghost use Rattle.std.specs.Prelude.{◌≡◌, ◌⊎◌, ◌++◌, string_bytes, option_map, map, IfOk, OnOk, IfNone, IfSome, ◌≤◌, length};
+ghost use Rattle.std.specs.Prelude.{◌≡◌, ◌≢◌, ◌⊎◌, ◌++◌, string_bytes, option_map, map, IfOk, OnOk, IfNone, IfSome, ◌≤◌, length};
+ghost use Rattle.cedar_extensions.specs.Lookups.{IsUnknownAlone};
+ghost use Rattle.cedar_extensions.specs.Tables.{functions_in};
 ghost use Rattle.cedar_frames.specs.Heads.{body_limit};
 ghost use Rattle.cedar_policies.specs.Policies.{policy_id};
 ghost use Rattle.cedar_policy_parts.specs.Decisions.{decision_of};
 ghost use Rattle.cedar_replies.specs.Replies.{answer_of};
+ghost use Rattle.cedar_replies.specs.declared.refusal.Refusal.TheVariants as refusals;
 ghost use Rattle.cedar_session.specs.Sessions.{setting_of, world_of};
 ghost use Rattle.cedar_trees.specs.Bare.{bare};
 ghost use Rattle.cedar_world.specs.Lines.{answer_line};
-ghost use Rattle.cedar_authoring.specs.Explaining.{status_of, IsUnexplained, TellsAnswered, TellsExplained, TellsPolicies};
+ghost use Rattle.cedar_authoring.specs.Checks.{TellsFaults};
+ghost use Rattle.cedar_authoring.specs.Explaining.{status_of, TellsAnswered, TellsExplained, TellsPolicies, TellsUnexplained};
 ghost use Rattle.cedar_authoring.specs.Names.{names_left, names_of, TellsNames, AwaitedNamesSuffice};
 ghost use Rattle.cedar_authoring.specs.Standing.{TellsStanding};
 ghost use Rattle.cedar_authoring.specs.Telling.{Adds};
+ghost use Rattle.cedar_authoring.specs.Titles.{titled, titled_text};
 
 use crate::awaiting::{awaited, listed, once, push_standing};
-use crate::checking::{DEPTH, Report};
+use crate::checking::{DEPTH, Report, refuse_unread};
 use crate::giving::{Refused, Source, read_source, tell_refusal};
 use crate::standing::{Standing, tell_standing};
 use cedar_held::worlds::policy_sets_are_worlds;
+use cedar_parser::strict::parse_policyset;
 use cedar_policies::policies::Policy;
 use cedar_policy_parts::annotations::Annotations;
 use cedar_policy_set::policy_map::PolicyMap;
 use cedar_session::{
-    Answer, Decision, Extensions, PartialResponse, PolicyID, Reply, Session, Verb, line_in_memory,
+    Answer, Decision, Extensions, PartialResponse, PolicyID, Refusal, Reply, Session, Verb,
+    line_in_memory,
 };
 use cedar_trees::expr::Expr;
 use std::alloc::{AllocError, Global};
@@ -50,7 +57,7 @@ pub fn explained(
     question: Named<'_>,
 ) -> Result<Report, AllocError>
     ensures explained { IfOk result (λ report. (report.status ≡ 1 → ⊥) → TellsExplained policies.entry.name.now policies.entry.bytes.now entities.entry.bytes.now question.entry.bytes.now report.status (string_bytes report.text)) }
-    ensures refused { IfOk result (λ report. report.status ≡ 1 → IsUnexplained policies.entry.bytes.now entities.entry.bytes.now question.entry.bytes.now) }
+    ensures refused { IfOk result (λ report. report.status ≡ 1 → TellsUnexplained (titled policies.entry) (titled entities.entry) (titled question.entry) (string_bytes report.text)) }
     ensures status { IfOk result (λ report. (report.status ≡ 0) ⊎ (report.status ≡ 1) ⊎ (report.status ≡ 2) ⊎ (report.status ≡ 3)) }
 {
     let policies = match read_source(alloc, policies.name, policies.bytes)? {
@@ -77,7 +84,7 @@ fn explain_texts(
     requires entities { length entities.text.now ≤ body_limit }
     requires question { length question.text.now ≤ body_limit }
     ensures explained { IfOk result (λ report. (report.status ≡ 1 → ⊥) → TellsExplained policies.entry.name.now policies.entry.text.now entities.entry.text.now question.entry.text.now report.status (string_bytes report.text)) }
-    ensures refused { IfOk result (λ report. report.status ≡ 1 → IsUnexplained policies.entry.text.now entities.entry.text.now question.entry.text.now) }
+    ensures refused { IfOk result (λ report. report.status ≡ 1 → TellsUnexplained (titled_text policies.entry) (titled_text entities.entry) (titled_text question.entry) (string_bytes report.text)) }
     ensures status { IfOk result (λ report. (report.status ≡ 0) ⊎ (report.status ≡ 1) ⊎ (report.status ≡ 2) ⊎ (report.status ≡ 3)) }
 {
     let extensions = Extensions::all_available(alloc)?;
@@ -87,8 +94,7 @@ fn explain_texts(
     let ids = match session.load(policies.text) {
         Ok(ids) => ids,
         Err(refusal) => {
-            let command = Refused::of(Verb::Load, policies, refusal);
-            return tell_refusal(alloc, &extensions, &session, command);
+            return refuse_load(alloc, &extensions, policies, refusal);
         }
     };
     if let Err(refusal) = session.put(entities.text) {
@@ -101,6 +107,27 @@ fn explain_texts(
             let command = Refused::of(Verb::Ask, question, refusal);
             tell_refusal(alloc, &extensions, &session, command)
         }
+    }
+}
+
+/// Tells why a session doesn't load a text, unless that is want of memory.
+fn refuse_load(
+    alloc: Global,
+    extensions: &Extensions<'_>,
+    source: Source<'_>,
+    refusal: Refusal,
+) -> Result<Report, AllocError>
+    requires program { IsUnknownAlone (functions_in extensions.now) }
+    ensures other { IfOk result (λ report. refusal ≢ refusals.Memory) }
+    ensures told { IfOk result (λ report. TellsFaults source.entry.name.now source.entry.text.now (string_bytes report.text)) }
+    ensures status { IfOk result (λ report. report.status ≡ 1) }
+{
+    if let Refusal::Memory = refusal {
+        return Err(AllocError);
+    }
+    match parse_policyset(alloc, source.text, extensions, DEPTH) {
+        Ok(_) => Err(AllocError),
+        Err(errors) => refuse_unread(alloc, source.name, source.text, extensions, &errors),
     }
 }
 
@@ -161,6 +188,8 @@ fn tell_policies(
     policy_sets_are_worlds();
     let untold = once(session.untold()?);
     let policies = session.policies();
+    // Its contract says that the template of a link is bound.
+    let _bound = policies.len();
     for id in ids {
         tell_one(
             alloc,

@@ -1,8 +1,8 @@
 // The errors by which a text isn't read, told one behind the other.
 ghost use Rattle.std.specs.Prelude.{◌≡◌, string_bytes, IfOk, OnOk};
 ghost use Rattle.cedar_parser.specs.ErrorsLeft.{errors_of};
-ghost use Rattle.cedar_authoring.specs.Faults.{place_of, TellsFault};
-ghost use Rattle.cedar_authoring.specs.Telling.{Adds, TellsEach};
+ghost use Rattle.cedar_authoring.specs.Faults.{place_of, TellsErrors, TellsFault};
+ghost use Rattle.cedar_authoring.specs.Telling.{Adds, AreBelow, TellsEach};
 
 use crate::places::{Position, position_in};
 use crate::telling::{shown, tell};
@@ -24,6 +24,21 @@ pub fn tell_faults(
     tell_fault(alloc, &mut told, name, text, &errors.0.head)?;
     tell_others(alloc, &mut told, name, text, errors.0.tail.as_slice())?;
     Ok(told)
+}
+
+/// The same, unless the first of them is want of memory.
+pub(crate) fn tell_unread(
+    alloc: Global,
+    name: &str,
+    text: &str,
+    errors: &ParseErrors,
+) -> Result<String, AllocError>
+    ensures { IfOk result (λ told. TellsErrors name.now text.now errors.now (string_bytes told)) }
+{
+    if let ParseError::Memory = errors.0.head {
+        return Err(AllocError);
+    }
+    tell_faults(alloc, name, text, errors)
 }
 
 fn tell_others(
@@ -81,13 +96,12 @@ fn shown_below(
     text: &str,
     place: Option<Position>,
     error: &ParseError,
-) -> Result<String, AllocError> {
-    let Some(at) = place else {
-        return Ok(String::new(alloc));
-    };
+) -> Result<String, AllocError>
+    ensures { IfOk result (λ below. AreBelow (string_bytes below)) }
+{
     match expected(alloc, error)? {
-        Some(expected) => shown(alloc, text, at, Some(expected.as_str())),
-        None => shown(alloc, text, at, None),
+        Some(expected) => shown(alloc, text, place, Some(expected.as_str())),
+        None => shown(alloc, text, place, None),
     }
 }
 

@@ -1,19 +1,23 @@
 // Texts that a session is given, and what is told of one that it refuses.
-ghost use Rattle.std.specs.Prelude.{◌≡◌, ◌≢◌, ◌≤◌, length, IfOk, IfErr};
+ghost use Rattle.std.specs.Prelude.{◌≡◌, ◌≢◌, ◌≤◌, length, string_bytes, true, IfOk, IfErr, IfNone, IfSome, IsUtf8};
 ghost use Rattle.cedar_frames.specs.Heads.{body_limit};
+ghost use Rattle.cedar_parser.specs.declared.restricted.RestrictedExpressionParseError.TheVariants.{InvalidRestrictedExpression};
+ghost use Rattle.cedar_replies.specs.Refusals.{refusal_of};
 ghost use Rattle.cedar_replies.specs.declared.refusal.Refusal.TheVariants as refusals;
-ghost use Rattle.cedar_authoring.specs.Explaining.{IsNoText};
+ghost use Rattle.cedar_session.specs.Programs.{setting_within};
+ghost use Rattle.cedar_authoring.specs.Explaining.{TellsNoText};
+ghost use Rattle.cedar_authoring.specs.RefusedBodies.{is_for_a_part, IsBodyWithin, TellsBody, TellsKind, TellsOfAPart, TellsUnread};
 
 use crate::body_faults::{BodyFault, record_fault, shape_fault, start_of};
 use crate::checking::{DEPTH, Report, refuse, refused};
 use crate::edit_faults::{edit_fault, name_fault};
-use crate::faults::tell_faults;
-use crate::places::position_in;
+use crate::faults::tell_unread;
+use crate::places::{Position, position_in};
 use crate::shapes::Shape;
-use crate::telling::{shown, tell};
+use crate::telling::{on_one_line, shown, tell, tell_line};
 use crate::value_faults::value_fault;
 use cedar_parser::ExtStyles;
-use cedar_parser::err::{ParseError, ParseErrors, RestrictedExpressionParseError};
+use cedar_parser::err::RestrictedExpressionParseError;
 use cedar_parser::prelude::StylesOfExtensions;
 use cedar_parser::strict::{parse_policyset, parse_restrictedexpr};
 use cedar_restricted::borrowed::BorrowedRestrictedExpr;
@@ -35,7 +39,9 @@ pub(crate) fn read_source<'t>(
     bytes: &'t [u8],
 ) -> Result<Result<Source<'t>, Report>, AllocError>
     ensures text { IfOk result (λ read. IfOk read (λ source. (source.name.now ≡ name.now) × (source.text.now ≡ bytes.now) × (length bytes.now ≤ body_limit))) }
-    ensures refused { IfOk result (λ read. IfErr read (λ report. (report.status ≡ 1) × IsNoText bytes.now)) }
+    ensures utf8 { IfOk result (λ read. IfOk read (λ source. IsUtf8 bytes.now)) }
+    ensures told { IfOk result (λ read. IfErr read (λ report. TellsNoText (record { name = name.now; text = bytes.now }) (string_bytes report.text))) }
+    ensures status { IfOk result (λ read. IfErr read (λ report. report.status ≡ 1)) }
 {
     match str::from_utf8(bytes) {
         Ok(text) if text.len() <= BODY_LIMIT => Ok(Ok(Source { name, text })),
@@ -61,7 +67,8 @@ pub(crate) struct Refused<'t> {
 
 impl<'t> Refused<'t> {
     pub(crate) fn of(verb: Verb, source: Source<'t>, refusal: Refusal) -> Refused<'t>
-        ensures { result.refusal ≡ refusal }
+        ensures refusal { result.refusal ≡ refusal }
+        ensures source { result.source ≡ source.entry }
     {
         Refused {
             verb,
@@ -71,8 +78,8 @@ impl<'t> Refused<'t> {
     }
 }
 
-/// Tells why a session refuses a command, unless that is want of memory: the faults of its text, or else the kind of the
-/// refusal.
+/// Tells why a session refuses a command's body, unless that is want of memory: the faults of the body, or else the kind
+/// of the refusal.
 pub(crate) fn tell_refusal(
     alloc: Global,
     extensions: &Extensions<'_>,
@@ -80,6 +87,7 @@ pub(crate) fn tell_refusal(
     command: Refused<'_>,
 ) -> Result<Report, AllocError>
     ensures other { IfOk result (λ report. command.entry.refusal ≢ refusals.Memory) }
+    ensures told { IfOk result (λ report. TellsBody (setting_within DEPTH extensions.now) command.entry.source.name.now command.entry.source.text.now (refusal_of command.entry.refusal) (string_bytes report.text)) }
     ensures status { IfOk result (λ report. report.status ≡ 1) }
 {
     let Refused {
@@ -90,13 +98,22 @@ pub(crate) fn tell_refusal(
     if let Refusal::Memory = refusal {
         return Err(AllocError);
     }
-    match faults_told(alloc, extensions, session, command)? {
+    match body_told(alloc, extensions, session, command)? {
         Some(told) => Ok(refused(told)),
-        None => {
-            let message = format!(in alloc; "refused {}: {refusal}", refusal.name())?;
-            refuse(alloc, source.name, None, message.as_str())
-        }
+        None => Ok(refused(kind_told(alloc, source.name, refusal)?)),
     }
+}
+
+/// A line that says the kind of a refusal.
+fn kind_told(alloc: Global, name: &str, refusal: Refusal) -> Result<String, AllocError>
+    ensures { IfOk result (λ told. TellsKind name.now (refusal_of refusal) (string_bytes told)) }
+{
+    let words = format!(in alloc; "{refusal}")?;
+    let words = on_one_line(alloc, words.as_str())?;
+    let line = format!(in alloc; "refused {}: {}", refusal.name(), words.as_str())?;
+    let mut told = String::new(alloc);
+    tell_line(alloc, &mut told, name, None, line.as_str(), "")?;
+    Ok(told)
 }
 
 /// What is told of the faults of a refused command's text, where some are found: as policies those of a load, and else
@@ -111,7 +128,10 @@ pub(crate) fn faults_told(
     match command.verb {
         Verb::Load => match parse_policyset(alloc, source.text, extensions, DEPTH) {
             Ok(_) => Ok(None),
-            Err(errors) => Ok(Some(parsing_told(alloc, source, &errors)?)),
+            Err(errors) => {
+                let told = tell_unread(alloc, source.name, source.text, &errors)?;
+                Ok(Some(told))
+            }
         },
         _ => body_told(alloc, extensions, session, command),
     }
@@ -122,18 +142,52 @@ fn body_told(
     extensions: &Extensions<'_>,
     session: &Session<'_, '_>,
     command: Refused<'_>,
-) -> Result<Option<String>, AllocError> {
+) -> Result<Option<String>, AllocError>
+    ensures some { IfOk result (λ found. IfSome found (λ told. TellsBody (setting_within DEPTH extensions.now) command.entry.source.name.now command.entry.source.text.now (refusal_of command.entry.refusal) (string_bytes told))) }
+    ensures none { IfOk result (λ found. IfNone found (IsBodyWithin (setting_within DEPTH extensions.now) command.entry.source.text.now)) }
+{
     let source = command.source;
     let styles = ExtStyles::from_extensions(alloc, extensions)?;
     match parse_restrictedexpr(alloc, source.text, &styles, DEPTH) {
         Err(error) => Ok(Some(unread_told(alloc, source, &error)?)),
-        Ok(body) => match fault_of(alloc, extensions, session, command, body.as_borrowed())? {
-            None => Ok(None),
-            Some(fault) => {
-                let told = placed_told(alloc, source, fault.byte, fault.message.as_str())?;
-                Ok(Some(told))
-            }
-        },
+        Ok(body) => part_told(alloc, extensions, session, command, body.as_borrowed()),
+    }
+}
+
+/// What is told of the part for which a body is so refused, where one is found.
+fn part_told(
+    alloc: Global,
+    extensions: &Extensions<'_>,
+    session: &Session<'_, '_>,
+    command: Refused<'_>,
+    body: BorrowedRestrictedExpr<'_>,
+) -> Result<Option<String>, AllocError>
+    ensures part { IfOk result (λ found. IfSome found (λ told. is_for_a_part (refusal_of command.entry.refusal) ≡ true)) }
+    ensures told { IfOk result (λ found. IfSome found (λ told. TellsOfAPart command.entry.source.name.now (string_bytes told))) }
+{
+    let source = command.source;
+    if !is_for_a_part(command.refusal) {
+        return Ok(None);
+    }
+    match fault_of(alloc, extensions, session, command, body)? {
+        None => Ok(None),
+        Some(fault) => {
+            let told = placed_told(alloc, source, fault.byte, fault.message.as_str())?;
+            Ok(Some(told))
+        }
+    }
+}
+
+/// Whether a body is so refused for what a part of it is.
+fn is_for_a_part(refusal: Refusal) -> bool
+    ensures { result ≡ is_for_a_part (refusal_of refusal) }
+{
+    match refusal {
+        Refusal::Shape | Refusal::WrongKind => true,
+        Refusal::Evaluation | Refusal::NotAValue | Refusal::BadUnknown => true,
+        Refusal::Duplicate | Refusal::Cycle => true,
+        Refusal::NoSuchUnknown | Refusal::AlreadyTold => true,
+        _ => false,
     }
 }
 
@@ -168,24 +222,17 @@ fn unread_told(
     alloc: Global,
     source: Source<'_>,
     error: &RestrictedExpressionParseError,
-) -> Result<String, AllocError> {
+) -> Result<String, AllocError>
+    ensures { IfOk result (λ told. TellsUnread source.entry.name.now source.entry.text.now error.now (string_bytes told)) }
+{
     match error {
-        RestrictedExpressionParseError::Parse(errors) => parsing_told(alloc, source, errors),
+        RestrictedExpressionParseError::Parse(errors) => {
+            tell_unread(alloc, source.name, source.text, errors)
+        }
         RestrictedExpressionParseError::InvalidRestrictedExpression(error) => {
             offence_told(alloc, source, error)
         }
     }
-}
-
-fn parsing_told(
-    alloc: Global,
-    source: Source<'_>,
-    errors: &ParseErrors,
-) -> Result<String, AllocError> {
-    if let ParseError::Memory = errors.0.head {
-        return Err(AllocError);
-    }
-    tell_faults(alloc, source.name, source.text, errors)
 }
 
 /// What may not stand in a body, and where it stands.
@@ -193,13 +240,17 @@ fn offence_told(
     alloc: Global,
     source: Source<'_>,
     error: &RestrictedExpressionError,
-) -> Result<String, AllocError> {
-    let RestrictedExpressionError::InvalidRestrictedExpression(offence) = error else {
-        return Err(AllocError);
-    };
-    let message = format!(in alloc; "{offence}")?;
-    let byte = start_of(offence.expr.source_loc());
-    placed_told(alloc, source, byte, message.as_str())
+) -> Result<String, AllocError>
+    ensures { IfOk result (λ told. TellsUnread source.entry.name.now source.entry.text.now (InvalidRestrictedExpression error.now) (string_bytes told)) }
+{
+    match error {
+        RestrictedExpressionError::Memory(_) => Err(AllocError),
+        RestrictedExpressionError::InvalidRestrictedExpression(offence) => {
+            let message = format!(in alloc; "{offence}")?;
+            let byte = start_of(offence.expr.source_loc());
+            placed_told(alloc, source, byte, message.as_str())
+        }
+    }
 }
 
 /// A message of a byte of a text, if the byte is known, and the line in which it stands.
@@ -208,22 +259,27 @@ fn placed_told(
     source: Source<'_>,
     byte: Option<usize>,
     message: &str,
-) -> Result<String, AllocError> {
+) -> Result<String, AllocError>
+    ensures { IfOk result (λ told. TellsOfAPart source.entry.name.now (string_bytes told)) }
+{
+    let place = place_in(source, byte);
+    let below = shown(alloc, source.text, place, None)?;
     let mut told = String::new(alloc);
-    match byte {
-        None => tell(alloc, &mut told, source.name, None, message, "")?,
-        Some(byte) => {
-            let at = position_in(source.text.as_bytes(), byte);
-            let below = shown(alloc, source.text, at, None)?;
-            tell(
-                alloc,
-                &mut told,
-                source.name,
-                Some(at),
-                message,
-                below.as_str(),
-            )?;
-        }
-    }
+    tell(
+        alloc,
+        &mut told,
+        source.name,
+        place,
+        message,
+        below.as_str(),
+    )?;
     Ok(told)
+}
+
+/// Where a byte of a text stands, if the byte is known.
+fn place_in(source: Source<'_>, byte: Option<usize>) -> Option<Position> {
+    match byte {
+        None => None,
+        Some(byte) => Some(position_in(source.text.as_bytes(), byte)),
+    }
 }

@@ -1,10 +1,10 @@
 // The policies of a text that is fine, a line for each.
 ghost use Rattle.std.specs.Prelude.{string_bytes, IfOk, OnOk};
 ghost use Rattle.cedar_authoring.specs.Checks.{TellsPolicy};
-ghost use Rattle.cedar_authoring.specs.Telling.{Adds, TellsEach};
+ghost use Rattle.cedar_authoring.specs.Telling.{Adds, IsLine, TellsEach};
 
 use crate::places::{Position, line_and_column};
-use crate::telling::tell;
+use crate::telling::{on_one_line, tell_line};
 use cedar_parser::PolicySet;
 use cedar_policies::templates::Template;
 use cedar_session::PolicyID;
@@ -40,7 +40,7 @@ fn tell_policy(
     let place = policy.and_then(|policy| place_of(text, policy));
     let what = described(alloc, policy)?;
     let line = format!(in alloc; "{} {}", id.as_str(), what.as_str())?;
-    tell(alloc, told, name, place, line.as_str(), "")?;
+    tell_line(alloc, told, name, place, line.as_str(), "")?;
     Ok(())
 }
 
@@ -53,7 +53,9 @@ fn place_of(text: &str, policy: &Template) -> Option<Position> {
 }
 
 /// `template` where it has slots, else its effect; and behind it the annotation `@id`, if it has one.
-pub(crate) fn described(alloc: Global, policy: Option<&Template>) -> Result<String, AllocError> {
+pub(crate) fn described(alloc: Global, policy: Option<&Template>) -> Result<String, AllocError>
+    ensures { IfOk result (λ what. IsLine (string_bytes what)) }
+{
     let Some(policy) = policy else {
         return Ok(String::new(alloc));
     };
@@ -64,7 +66,7 @@ pub(crate) fn described(alloc: Global, policy: Option<&Template>) -> Result<Stri
             what.push_str(annotation.as_str())?;
         }
     }
-    Ok(what)
+    on_one_line(alloc, what.as_str())
 }
 
 fn kind(alloc: Global, policy: &Template) -> Result<String, AllocError> {

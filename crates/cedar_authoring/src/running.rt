@@ -1,11 +1,11 @@
 // The tests of a script, run in sessions.
-ghost use Rattle.std.specs.Prelude.{◌≡◌, ◌⊎◌, ◌++◌, ◌&&◌, All, string_bytes, IfOk};
+ghost use Rattle.std.specs.Prelude.{◌≡◌, ◌⊎◌, ◌++◌, ◌&&◌, All, string_bytes, IfOk, OnOk};
 ghost use Rattle.cedar_extensions.specs.Lookups.{IsUnknownAlone};
 ghost use Rattle.cedar_extensions.specs.Tables.{functions_in};
 ghost use Rattle.cedar_session.specs.Programs.{setting_within};
 ghost use Rattle.cedar_session.specs.Sessions.{setting_of, world_of};
-ghost use Rattle.cedar_authoring.specs.Scripts.{AreAnswered, Fits, FitsCommand, IsAnswered, Passes, TellsScript, TellsTest};
-ghost use Rattle.cedar_authoring.specs.Telling.{Adds};
+ghost use Rattle.cedar_authoring.specs.Scripts.{AreAnswered, Fits, FitsCommand, IsAnswered, Passes, TellsLong, TellsScript, TellsTest};
+ghost use Rattle.cedar_authoring.specs.Telling.{Adds, AreBelow};
 
 use crate::checking::{DEPTH, Report};
 use crate::expecting::{first_long, is_expected, tell_test};
@@ -21,6 +21,8 @@ use std::alloc::{AllocError, Global};
 /// below, and last how many passed and failed. The status is 0 where at least one passed and none failed, and else 1.
 /// It is 2 where the text of a command is longer than 1,048,576 bytes; then no test runs. Refused for memory alone.
 pub fn run_script(alloc: Global, name: &str, script: &Script) -> Result<Report, AllocError>
+    ensures long { IfOk result (λ report. report.status ≡ 2 → Fits script.now → ⊥) }
+    ensures told { IfOk result (λ report. report.status ≡ 2 → TellsLong name.now script.now (string_bytes report.text)) }
     ensures ran { IfOk result (λ report. (report.status ≡ 2 → ⊥) → TellsScript script.now report.status (string_bytes report.text)) }
     ensures status { IfOk result (λ report. (report.status ≡ 0) ⊎ (report.status ≡ 1) ⊎ (report.status ≡ 2)) }
 {
@@ -110,6 +112,7 @@ fn run_steps(
 ) -> Result<bool, AllocError>
     requires fits { All FitsCommand steps.now }
     ensures answered { IfOk result (λ fine. AreAnswered (setting_of session.old) (world_of session.old) steps.now (world_of session.new) fine) }
+    ensures told { OnOk result (Adds AreBelow (string_bytes wrong.old) (string_bytes wrong.new)) }
     ensures setting { setting_of session.new ≡ setting_of session.old }
 {
     let mut fine = true;
@@ -137,12 +140,14 @@ fn run_step(
 ) -> Result<bool, AllocError>
     requires fits { FitsCommand step.now }
     ensures answered { IfOk result (λ fine. IsAnswered (setting_of session.old) (world_of session.old) step.now (world_of session.new) fine) }
+    ensures told { OnOk result (Adds AreBelow (string_bytes wrong.old) (string_bytes wrong.new)) }
     ensures setting { setting_of session.new ≡ setting_of session.old }
 {
     let outcome = session.apply(&Command::of(step.verb, step.body.as_str()));
     let fine = is_expected(alloc, step, &outcome)?;
-    if !fine {
-        tell_wrong(alloc, extensions, session, wrong, name, step, &outcome)?;
+    if fine {
+        return Ok(fine);
     }
+    tell_wrong(alloc, extensions, session, wrong, name, step, &outcome)?;
     Ok(fine)
 }

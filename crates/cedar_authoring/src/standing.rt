@@ -1,17 +1,17 @@
 // How policies stand, as a response has it.
-ghost use Rattle.std.specs.Prelude.{◌≡◌, is_some, string_bytes, OnOk, map};
+ghost use Rattle.std.specs.Prelude.{◌≡◌, is_some, string_bytes, IfOk, OnOk, map};
 ghost use Rattle.cedar_evaluator.specs.Holding.{error_seen};
 ghost use Rattle.cedar_evaluator.specs.declared.partial_response.PartialResponse.{PartialResponse as Response};
 ghost use Rattle.cedar_policies.specs.Policies.{policy_id};
 ghost use Rattle.cedar_authoring.specs.Standing.{is_in, is_open, is_satisfied, standing_words, TellsStanding};
 ghost use Rattle.cedar_authoring.specs.StandingWords.{words_of};
-ghost use Rattle.cedar_authoring.specs.Telling.{Adds};
+ghost use Rattle.cedar_authoring.specs.Telling.{Adds, AreBelow};
 
 use crate::awaiting::{awaited, listed, push_standing};
 use crate::giving::Source;
 use crate::listing::described;
 use crate::places::{Position, position_in};
-use crate::telling::{push_indented, tell};
+use crate::telling::{push_indented, tell_line};
 use cedar_evaluator::AuthorizationError;
 use cedar_extensions::evaluation_error::EvaluationError;
 use cedar_names::places::Loc;
@@ -114,12 +114,8 @@ pub(crate) fn tell_standing(
         what.as_str(),
         standing.words()
     )?;
-    let below = match standing {
-        Standing::Satisfied | Standing::NotSatisfied => String::new(alloc),
-        Standing::Errs(error) => why(alloc, source, error)?,
-        Standing::Open(rest) => left(alloc, rest, untold)?,
-    };
-    tell(
+    let below = shown(alloc, source, standing, untold)?;
+    tell_line(
         alloc,
         told,
         source.name,
@@ -136,8 +132,27 @@ fn place_in(source: Source<'_>, loc: Option<&Loc>) -> Option<Position> {
     }
 }
 
+/// What is shown below the line of a policy: why it errs, or what is left of it.
+fn shown(
+    alloc: Global,
+    source: Source<'_>,
+    standing: Standing<'_>,
+    untold: &[&str],
+) -> Result<String, AllocError>
+    ensures { IfOk result (λ shown. AreBelow (string_bytes shown)) }
+{
+    match standing {
+        Standing::Satisfied => Ok(String::new(alloc)),
+        Standing::NotSatisfied => Ok(String::new(alloc)),
+        Standing::Errs(error) => why(alloc, source, error),
+        Standing::Open(rest) => left(alloc, rest, untold),
+    }
+}
+
 /// Why a policy errs, and where.
-fn why(alloc: Global, source: Source<'_>, error: &EvaluationError) -> Result<String, AllocError> {
+fn why(alloc: Global, source: Source<'_>, error: &EvaluationError) -> Result<String, AllocError>
+    ensures { IfOk result (λ why. AreBelow (string_bytes why)) }
+{
     let message = match place_in(source, error.source_loc()) {
         None => format!(in alloc; "{error}")?,
         Some(at) => format!(in alloc; "{}:{}:{}: {error}", source.name, at.line, at.column)?,
@@ -148,7 +163,9 @@ fn why(alloc: Global, source: Source<'_>, error: &EvaluationError) -> Result<Str
 }
 
 /// What is left of a policy, and the names for which it waits.
-fn left(alloc: Global, rest: &Expr, untold: &[&str]) -> Result<String, AllocError> {
+fn left(alloc: Global, rest: &Expr, untold: &[&str]) -> Result<String, AllocError>
+    ensures { IfOk result (λ left. AreBelow (string_bytes left)) }
+{
     let mut standing = Vec::new(alloc);
     push_standing(alloc, &mut standing, rest)?;
     let names = awaited(alloc, untold, standing.as_slice())?;

@@ -1,6 +1,6 @@
 // What is told of a text, line by line.
 ghost use Rattle.std.specs.Prelude.{◌≡◌, ◌++◌, string_bytes, IfOk, OnOk};
-ghost use Rattle.cedar_authoring.specs.Telling.{heading, line_of};
+ghost use Rattle.cedar_authoring.specs.Telling.{heading, line_of, Adds, AreBelow, IsLine, TellsOf};
 
 use crate::places::Position;
 use std::alloc::{AllocError, Global};
@@ -18,8 +18,23 @@ fn heading(alloc: Global, name: &str, place: Option<Position>) -> Result<String,
     }
 }
 
-/// Tells a message of a place in the text of this name, and what is shown below it.
+/// Tells a message of a place in the text of this name, on one line, and what is shown below it.
 pub(crate) fn tell(
+    alloc: Global,
+    told: &mut String,
+    name: &str,
+    place: Option<Position>,
+    message: &str,
+    below: &str,
+) -> Result<(), AllocError>
+    ensures { AreBelow below.now → OnOk result (Adds (TellsOf name.now place) (string_bytes told.old) (string_bytes told.new)) }
+{
+    let message = on_one_line(alloc, message)?;
+    tell_line(alloc, told, name, place, message.as_str(), below)
+}
+
+/// Tells a line of a place in the text of this name, and what is shown below it.
+pub(crate) fn tell_line(
     alloc: Global,
     told: &mut String,
     name: &str,
@@ -37,24 +52,72 @@ pub(crate) fn tell(
     Ok(())
 }
 
-/// The line of a text in which a place stands, a mark below the place, and what was expected there.
+/// A text on one line: in place of each of its line feeds `\n` stands.
+pub(crate) fn on_one_line(alloc: Global, text: &str) -> Result<String, AllocError>
+    ensures { IfOk result (λ line. IsLine (string_bytes line)) }
+{
+    let mut line = String::new(alloc);
+    push_on_line(&mut line, text)?;
+    Ok(line)
+}
+
+/// Appends a text to a line, with `\n` in place of each of its line feeds.
+pub(crate) fn push_on_line(told: &mut String, text: &str) -> Result<(), AllocError>
+    ensures { OnOk result (Adds IsLine (string_bytes told.old) (string_bytes told.new)) }
+{
+    let mut rest = text;
+    while let Some((line, more)) = rest.split_once('\n') {
+        told.push_str(line)?;
+        told.push_str("\\n")?;
+        rest = more;
+    }
+    told.push_str(rest)?;
+    Ok(())
+}
+
+/// What is shown of a place in a text, if one is known: its line, a mark below the place, and what was expected there.
 pub(crate) fn shown(
     alloc: Global,
     text: &str,
-    at: Position,
+    place: Option<Position>,
     expected: Option<&str>,
-) -> Result<String, AllocError> {
+) -> Result<String, AllocError>
+    ensures { IfOk result (λ shown. AreBelow (string_bytes shown)) }
+{
     let mut shown = String::new(alloc);
-    let line = text.lines().nth(at.line.saturating_sub(1)).unwrap_or("");
-    if line.chars().count() <= LONGEST_LINE {
-        push_indented(&mut shown, line)?;
-        let mark = mark_below(alloc, line, at.column)?;
-        push_indented(&mut shown, mark.as_str())?;
-    }
-    if let Some(expected) = expected {
-        push_indented(&mut shown, expected)?;
-    }
+    push_marked(alloc, &mut shown, text, place)?;
+    push_expected(&mut shown, expected)?;
     Ok(shown)
+}
+
+fn push_expected(told: &mut String, expected: Option<&str>) -> Result<(), AllocError>
+    ensures { OnOk result (Adds AreBelow (string_bytes told.old) (string_bytes told.new)) }
+{
+    match expected {
+        None => Ok(()),
+        Some(expected) => push_indented(told, expected),
+    }
+}
+
+/// Adds the line of a text in which a place stands, and a mark below the place.
+fn push_marked(
+    alloc: Global,
+    told: &mut String,
+    text: &str,
+    place: Option<Position>,
+) -> Result<(), AllocError>
+    ensures { OnOk result (Adds AreBelow (string_bytes told.old) (string_bytes told.new)) }
+{
+    let Some(at) = place else {
+        return Ok(());
+    };
+    let line = text.lines().nth(at.line.saturating_sub(1)).unwrap_or("");
+    if line.chars().count() > LONGEST_LINE {
+        return Ok(());
+    }
+    let mark = mark_below(alloc, line, at.column)?;
+    push_indented(told, line)?;
+    push_indented(told, mark.as_str())
 }
 
 /// A mark that stands below this column of a line, whatever tabs come before.
@@ -68,9 +131,11 @@ fn mark_below(alloc: Global, line: &str, column: usize) -> Result<String, AllocE
 }
 
 /// Adds a line below what it belongs to.
-pub(crate) fn push_indented(told: &mut String, line: &str) -> Result<(), AllocError> {
+pub(crate) fn push_indented(told: &mut String, line: &str) -> Result<(), AllocError>
+    ensures { OnOk result (Adds AreBelow (string_bytes told.old) (string_bytes told.new)) }
+{
     told.push_str("    ")?;
-    told.push_str(line)?;
+    push_on_line(told, line)?;
     told.push_str("\n")?;
     Ok(())
 }

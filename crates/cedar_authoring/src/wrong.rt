@@ -1,7 +1,10 @@
 // What is told of a command that isn't answered as is expected.
+ghost use Rattle.std.specs.Prelude.{string_bytes, OnOk};
+ghost use Rattle.cedar_authoring.specs.Telling.{Adds, AreBelow};
+
 use crate::giving::{Refused, Source, faults_told};
 use crate::scripts::Step;
-use crate::telling::push_indented;
+use crate::telling::{push_indented, push_on_line};
 use cedar_session::{Extensions, Refusal, Reply, Session, line_in_memory};
 use std::alloc::{AllocError, Global};
 
@@ -14,12 +17,39 @@ pub(crate) fn tell_wrong(
     name: &str,
     step: &Step,
     outcome: &Result<Reply, Refusal>,
-) -> Result<(), AllocError> {
-    let head = format!(in alloc; "  {name}:{}: {}", step.line, step.verb.name())?;
-    told.push_str(head.as_str())?;
+) -> Result<(), AllocError>
+    ensures { OnOk result (Adds AreBelow (string_bytes told.old) (string_bytes told.new)) }
+{
+    tell_command(alloc, told, name, step)?;
+    tell_answer(alloc, told, step, outcome)?;
+    match outcome {
+        Ok(_) => Ok(()),
+        Err(refusal) => tell_refused(alloc, extensions, session, told, name, step, *refusal),
+    }
+}
+
+/// Tells where a command stands.
+fn tell_command(alloc: Global, told: &mut String, name: &str, step: &Step) -> Result<(), AllocError>
+    ensures { OnOk result (Adds AreBelow (string_bytes told.old) (string_bytes told.new)) }
+{
+    let head = format!(in alloc; "{name}:{}: {}", step.line, step.verb.name())?;
     let about = about(alloc, step)?;
-    told.push_str(about.as_str())?;
+    told.push_str("  ")?;
+    push_on_line(told, head.as_str())?;
+    push_on_line(told, about.as_str())?;
     told.push_str("\n")?;
+    Ok(())
+}
+
+/// Tells what was expected, and what is answered.
+fn tell_answer(
+    alloc: Global,
+    told: &mut String,
+    step: &Step,
+    outcome: &Result<Reply, Refusal>,
+) -> Result<(), AllocError>
+    ensures { OnOk result (Adds AreBelow (string_bytes told.old) (string_bytes told.new)) }
+{
     let expected = match &step.expected {
         Some(words) => words.as_str(),
         None => "no refusal",
@@ -29,11 +59,7 @@ pub(crate) fn tell_wrong(
     let line = line_in_memory(alloc, outcome)?;
     let line = String::from_utf8_lossy(alloc, line.as_slice())?;
     let answered = format!(in alloc; "answered {}", line.as_str().trim_end())?;
-    push_indented(told, answered.as_str())?;
-    match outcome {
-        Ok(_) => Ok(()),
-        Err(refusal) => tell_refused(alloc, extensions, session, told, name, step, *refusal),
-    }
+    push_indented(told, answered.as_str())
 }
 
 /// The first line of a body, or the file that has it, behind a space.
@@ -56,7 +82,9 @@ fn tell_refused(
     name: &str,
     step: &Step,
     refusal: Refusal,
-) -> Result<(), AllocError> {
+) -> Result<(), AllocError>
+    ensures { OnOk result (Adds AreBelow (string_bytes told.old) (string_bytes told.new)) }
+{
     match &step.file {
         Some(file) => {
             let source = Source {
@@ -98,7 +126,9 @@ fn push_faults(
     session: &Session<'_, '_>,
     told: &mut String,
     command: Refused<'_>,
-) -> Result<(), AllocError> {
+) -> Result<(), AllocError>
+    ensures { OnOk result (Adds AreBelow (string_bytes told.old) (string_bytes told.new)) }
+{
     let Some(faults) = faults_told(alloc, extensions, session, command)? else {
         return Ok(());
     };

@@ -27,13 +27,13 @@ int main(void) {
 
     size_t room = 64;
     for (;;) {
-        uint8_t *output = malloc(room);
+        char *output = malloc(room);
         if (output == NULL) {
             fprintf(stderr, "no memory\n");
             return CEDAR_NO_MEMORY;
         }
         size_t written = 0;
-        uint8_t status = cedar_run((const uint8_t *)input, used, output, room, &written);
+        enum cedar_status status = cedar_run(input, used, output, room, &written);
         if (status == CEDAR_NO_ROOM) {
             free(output);
             room = written;
@@ -41,8 +41,8 @@ int main(void) {
         }
         fwrite(output, 1, written, stdout);
         free(output);
-        if (status == CEDAR_NO_MEMORY) {
-            fprintf(stderr, "no memory\n");
+        if (status != CEDAR_DONE) {
+            fprintf(stderr, "%s\n", cedar_status_text(status));
         }
         return status;
     }

@@ -19,9 +19,9 @@ static _Noreturn void fail(const char *what) {
 }
 
 /* Gives a command, and writes its line. */
-static size_t answered(cedar_session *session, const char *verb, const char *body, uint8_t *line, size_t room) {
+static size_t answered(cedar_session *session, const char *verb, const char *body, char *line, size_t room) {
     size_t written = 0;
-    if (cedar_command(session, (const uint8_t *)verb, strlen(verb), (const uint8_t *)body, strlen(body)) != CEDAR_DONE ||
+    if (cedar_command(session, verb, strlen(verb), body, strlen(body)) != CEDAR_DONE ||
         cedar_answer(session, line, room, &written) != CEDAR_DONE) {
         fail("a command failed");
     }
@@ -30,7 +30,7 @@ static size_t answered(cedar_session *session, const char *verb, const char *bod
 
 static void ask_by_handle(long count) {
     cedar_session session = CEDAR_CLOSED;
-    uint8_t line[256];
+    char line[256];
     if (cedar_open(&session, CEDAR_DEPTH) != CEDAR_DONE) {
         fail("no memory");
     }
@@ -53,7 +53,7 @@ static char *add_frame(char *input, const char *verb, const char *body) {
 static void ask_in_run(long count) {
     size_t room = 1024 + (size_t)count * 256, written = 0;
     char *input = malloc(room), *end = input;
-    uint8_t *output = malloc(room);
+    char *output = malloc(room);
     if (input == NULL || output == NULL) {
         fail("no memory");
     }
@@ -63,7 +63,7 @@ static void ask_in_run(long count) {
     for (long at = 0; at < count; at++) {
         end = add_frame(end, "ask", question);
     }
-    if (cedar_run((const uint8_t *)input, (size_t)(end - input), output, room, &written) != CEDAR_ENDED) {
+    if (cedar_run(input, (size_t)(end - input), output, room, &written) != CEDAR_DONE) {
         fail("a fault");
     }
     if (written < (size_t)count * strlen(wanted)) {

@@ -8,9 +8,9 @@
 #include <string.h>
 #include <unistd.h>
 
-enum { HEAD_LIMIT = 32, TRIES = 8, USAGE = 1, DEVICE = 3 };
+enum { HEAD_LIMIT = 32, TRIES = 8, ENDED = 0, USAGE = 1, FAULT = 2, DEVICE = 3, NO_MEMORY = 4 };
 
-static uint8_t body[CEDAR_BODY_LIMIT + 1];
+static char body[CEDAR_BODY_LIMIT + 1];
 static cedar_session session = CEDAR_CLOSED;
 
 /* Ends the program, and gives back what the session took. */
@@ -20,7 +20,7 @@ static _Noreturn void end(int status) {
 }
 
 /* Writes all of a text, or ends the program. */
-static void put(const uint8_t *text, size_t length) {
+static void put(const char *text, size_t length) {
     while (length > 0) {
         ssize_t count = write(STDOUT_FILENO, text, length);
         if (count <= 0) {
@@ -32,12 +32,12 @@ static void put(const uint8_t *text, size_t length) {
 }
 
 static _Noreturn void end_with(const char *line, int status) {
-    put((const uint8_t *)line, strlen(line));
+    put(line, strlen(line));
     end(status);
 }
 
 /* Reads so many bytes, or fewer at the end of the input. */
-static size_t get(uint8_t *into, size_t length) {
+static size_t get(char *into, size_t length) {
     size_t used = 0;
     while (used < length) {
         ssize_t count = read(STDIN_FILENO, into + used, length - used);
@@ -56,17 +56,17 @@ static size_t get(uint8_t *into, size_t length) {
 static size_t get_head(char *head) {
     size_t length = 0;
     for (;;) {
-        uint8_t byte;
+        char byte;
         if (get(&byte, 1) == 0) {
-            end_with(length == 0 ? "end\n" : "fault Truncated\n", length == 0 ? CEDAR_ENDED : CEDAR_FAULT);
+            end_with(length == 0 ? "end\n" : "fault Truncated\n", length == 0 ? ENDED : FAULT);
         }
         if (byte == '\n') {
             return length;
         }
         if (length == HEAD_LIMIT) {
-            end_with("fault BadHead\n", CEDAR_FAULT);
+            end_with("fault BadHead\n", FAULT);
         }
-        head[length++] = (char)byte;
+        head[length++] = byte;
     }
 }
 
@@ -84,7 +84,7 @@ static int is_verb(const char *word, size_t length) {
 static size_t number_of(const char *digits, size_t length) {
     size_t number = 0;
     if (length == 0 || (digits[0] == '0' && length > 1) || strspn(digits, "0123456789") != length) {
-        end_with("fault BadHead\n", CEDAR_FAULT);
+        end_with("fault BadHead\n", FAULT);
     }
     for (size_t at = 0; at < length && number <= CEDAR_BODY_LIMIT; at++) {
         number = number * 10 + (size_t)(digits[at] - '0');
@@ -94,20 +94,20 @@ static size_t number_of(const char *digits, size_t length) {
 
 /* Writes the line of the last command. */
 static void put_answer(void) {
-    static uint8_t *output;
+    static char *output;
     static size_t room;
     size_t written = 0;
-    uint8_t status = CEDAR_NO_MEMORY;
+    enum cedar_status status = CEDAR_NO_MEMORY;
     for (int tries = 0; tries < TRIES && status != CEDAR_DONE; tries++) {
         status = cedar_answer(&session, room == 0 ? body : output, room, &written);
-        uint8_t *grown = status == CEDAR_NO_ROOM ? realloc(output, written) : NULL;
+        char *grown = status == CEDAR_NO_ROOM ? realloc(output, written) : NULL;
         if (grown != NULL) {
             output = grown;
             room = written;
         }
     }
     if (status != CEDAR_DONE) {
-        end(CEDAR_NO_MEMORY);
+        end(NO_MEMORY);
     }
     put(output, written);
 }
@@ -119,7 +119,7 @@ int main(int count, char **words) {
         return USAGE;
     }
     if (cedar_open(&session, CEDAR_DEPTH) != CEDAR_DONE) {
-        return CEDAR_NO_MEMORY;
+        return NO_MEMORY;
     }
     for (;;) {
         char head[HEAD_LIMIT + 1] = {0};
@@ -127,20 +127,20 @@ int main(int count, char **words) {
         const char *space = memchr(head, ' ', length);
         size_t verb = space == NULL ? 0 : (size_t)(space - head);
         if (space == NULL || !is_verb(head, verb)) {
-            end_with("fault BadHead\n", CEDAR_FAULT);
+            end_with("fault BadHead\n", FAULT);
         }
         size_t number = number_of(space + 1, length - verb - 1);
         if (number > CEDAR_BODY_LIMIT) {
-            end_with("fault TooLong\n", CEDAR_FAULT);
+            end_with("fault TooLong\n", FAULT);
         }
         if (get(body, number + 1) <= number) {
-            end_with("fault Truncated\n", CEDAR_FAULT);
+            end_with("fault Truncated\n", FAULT);
         }
         if (body[number] != '\n') {
-            end_with("fault NoLineFeed\n", CEDAR_FAULT);
+            end_with("fault NoLineFeed\n", FAULT);
         }
-        if (cedar_command(&session, (const uint8_t *)head, verb, body, number) != CEDAR_DONE) {
-            end(CEDAR_NO_COMMAND);
+        if (cedar_command(&session, head, verb, body, number) != CEDAR_DONE) {
+            end(FAULT);
         }
         put_answer();
     }

@@ -8,13 +8,13 @@
 
 /* Where the line of an answer is written. */
 struct output {
-    uint8_t *at;
+    char *at;
     size_t room;
 };
 
 /* Makes more room, or ends the program. */
 static void grow(struct output *output, size_t room) {
-    uint8_t *grown = realloc(output->at, room);
+    char *grown = realloc(output->at, room);
     if (grown == NULL) {
         fprintf(stderr, "no memory\n");
         exit(CEDAR_NO_MEMORY);
@@ -24,9 +24,9 @@ static void grow(struct output *output, size_t room) {
 }
 
 /* Writes the line that answers the last command, and answers its status. */
-static uint8_t put_answer(cedar_session *session, struct output *output) {
+static enum cedar_status put_answer(cedar_session *session, struct output *output) {
     size_t written = 0;
-    uint8_t status = cedar_answer(session, output->at, output->room, &written);
+    enum cedar_status status = cedar_answer(session, output->at, output->room, &written);
     if (status == CEDAR_NO_ROOM) {
         grow(output, written);
         status = cedar_answer(session, output->at, output->room, &written);
@@ -37,35 +37,35 @@ static uint8_t put_answer(cedar_session *session, struct output *output) {
 }
 
 /* Does the command of a line, and answers its status. */
-static uint8_t do_line(cedar_session *session, const char *line, size_t length) {
+static enum cedar_status do_line(cedar_session *session, const char *line, size_t length) {
     const char *space = memchr(line, ' ', length);
     size_t verb = space == NULL ? length : (size_t)(space - line);
     size_t body = space == NULL ? length : verb + 1;
-    return cedar_command(session, (const uint8_t *)line, verb, (const uint8_t *)line + body, length - body);
+    return cedar_command(session, line, verb, line + body, length - body);
 }
 
 int main(void) {
-    cedar_session session = CEDAR_CLOSED;
-    uint8_t status = cedar_open(&session, CEDAR_DEPTH);
+    cedar_session *session;
+    enum cedar_status status = cedar_new(&session, CEDAR_DEPTH);
     struct output output = {NULL, 0};
     char *line = NULL;
     size_t room = 0;
     ssize_t count;
-    if (status == CEDAR_DONE) {
-        grow(&output, 64);
-    }
     while (status == CEDAR_DONE && (count = getline(&line, &room, stdin)) > 0) {
         size_t length = (size_t)count - (line[count - 1] == '\n');
-        status = do_line(&session, line, length);
-        if (status == CEDAR_NO_COMMAND) {
+        status = do_line(session, line, length);
+        if (status == CEDAR_NO_VERB) {
             puts("no command");
             status = CEDAR_DONE;
         } else if (status == CEDAR_DONE) {
-            status = put_answer(&session, &output);
+            status = put_answer(session, &output);
         }
+    }
+    if (status != CEDAR_DONE) {
+        fprintf(stderr, "%s\n", cedar_status_text(status));
     }
     free(line);
     free(output.at);
-    cedar_close(&session);
+    cedar_free(session);
     return status;
 }

@@ -1,7 +1,8 @@
 /* What a limit of depth takes of a thread's stack, where texts nest as deep as they may.
 
-   `stack` prints a table, by painted stacks: of each limit the most that a policy, a body and a chain of `if` lose of the paint.
-   `stack LIMIT KIB` does all of them on threads with stacks of so many KiB; one that doesn't fit ends the program by a signal. */
+   `stack` prints a table, by painted stacks: of each limit the most that a policy, a body and a chain of `if` lose of the paint, and CEDAR_STACK. It
+   ends with status 1 where any takes more. `stack LIMIT` does all of them on threads that have CEDAR_STACK, and what their first frames take; one
+   that doesn't fit ends the program by a signal. */
 #define _GNU_SOURCE
 #include "cedar.h"
 
@@ -11,7 +12,7 @@
 #include <string.h>
 #include <sys/mman.h>
 
-enum { PAINT = 0xa5, KIB = 1024, STACK = 64 << 20, TEXT = 1 << 16 };
+enum { PAINT = 0xa5, KIB = 1024, STACK = 64 << 20, TEXT = 1 << 16, FIRST_FRAMES = 12 * KIB };
 
 /* What stands round one place, and on which side. */
 struct nest {
@@ -56,7 +57,7 @@ static _Noreturn void fail(const char *what) {
 }
 
 static void do_or_end(cedar_session *session, const char *verb, const char *body) {
-    if (cedar_command(session, (const uint8_t *)verb, strlen(verb), (const uint8_t *)body, strlen(body)) != CEDAR_DONE) {
+    if (cedar_command(session, verb, strlen(verb), body, strlen(body)) != CEDAR_DONE) {
         fail(verb);
     }
 }
@@ -95,8 +96,9 @@ static void nested(cedar_session *session, const struct task *task, uint32_t lev
 static void *do_task(void *given) {
     const struct task *task = given;
     cedar_session session = CEDAR_CLOSED;
-    if (cedar_open(&session, task->depth) != CEDAR_DONE) {
-        fail("no memory");
+    enum cedar_status status = cedar_open(&session, task->depth);
+    if (status != CEDAR_DONE) {
+        fail(cedar_status_text(status));
     }
     for (uint32_t levels = task->depth - 2; levels <= task->depth + 1; levels++) {
         nested(&session, task, levels);
@@ -138,24 +140,31 @@ static size_t most_used(uint32_t depth, const struct column *column, uint8_t *st
     return most;
 }
 
-static void print_table(void) {
-    static const uint32_t depths[] = {8, 16, 32, 64, 128, 256};
+/* Prints the table, and answers whether each limit takes what CEDAR_STACK says, or less. */
+static int print_table(void) {
+    static const uint32_t depths[] = {8, 16, 32, 64, 128, 256, CEDAR_DEPTH_MAX};
+    int is_so = 1;
     uint8_t *stack = mmap(NULL, STACK, PROT_READ | PROT_WRITE, MAP_PRIVATE | MAP_ANONYMOUS | MAP_STACK, -1, 0);
     if (stack == MAP_FAILED) {
         fail("no stack");
     }
-    printf("| limit | policy | body | `if` |\n|---|---|---|---|\n");
+    printf("| limit | policy | body | `if` | CEDAR_STACK |\n|---|---|---|---|---|\n");
     for (size_t at = 0; at < sizeof depths / sizeof *depths; at++) {
+        size_t told = CEDAR_STACK(depths[at]);
         printf("| %u |", (unsigned)depths[at]);
         for (size_t of = 0; of < sizeof columns / sizeof *columns; of++) {
-            printf(" %zu KiB |", (most_used(depths[at], &columns[of], stack) + KIB - 1) / KIB);
+            size_t most = most_used(depths[at], &columns[of], stack);
+            printf(" %zu KiB |", (most + KIB - 1) / KIB);
+            is_so = is_so && most <= told + FIRST_FRAMES;
         }
-        printf("\n");
+        printf(" %zu KiB |\n", told / KIB);
     }
+    return is_so;
 }
 
-/* Does all of a limit on threads with stacks of this size. */
-static void fit(uint32_t depth, size_t room) {
+/* Does all of a limit on threads with such a stack. */
+static void fit(uint32_t depth) {
+    size_t room = CEDAR_STACK(depth) + FIRST_FRAMES;
     for (size_t of = 0; of < sizeof columns / sizeof *columns; of++) {
         for (const struct nest *nest = columns[of].nests; nest->before != NULL; nest++) {
             struct task task = {depth, columns[of].is_body, nest};
@@ -169,12 +178,12 @@ static void fit(uint32_t depth, size_t room) {
 }
 
 int main(int count, char **words) {
-    if (count == 3) {
-        fit((uint32_t)strtoul(words[1], NULL, 10), strtoul(words[2], NULL, 10) * KIB);
-    } else if (count == 1) {
-        print_table();
-    } else {
-        fail("usage: stack [LIMIT KIB]");
+    if (count == 2) {
+        fit((uint32_t)strtoul(words[1], NULL, 10));
+    } else if (count != 1) {
+        fail("usage: stack [LIMIT]");
+    } else if (!print_table()) {
+        fail("a limit takes more than CEDAR_STACK");
     }
     return EXIT_SUCCESS;
 }

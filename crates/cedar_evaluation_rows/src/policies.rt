@@ -156,7 +156,7 @@ pub(crate) fn answer(
     match verb {
         "respond" => {
             let response = authorizer.is_authorized_core(alloc, request, set, entities)?;
-            responded(alloc, &response)
+            responded(alloc, &response.clone(alloc)?)
         }
         "respond-without-false" => {
             let response = authorizer.is_authorized_without_false(alloc, request, set, entities)?;

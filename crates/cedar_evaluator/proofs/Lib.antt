@@ -19,6 +19,7 @@ mod HeldIds
 mod Telling
 mod LeftSets
 pub mod Twice
+mod CopiedParts
 mod Again
 mod Scoped
 mod Judged

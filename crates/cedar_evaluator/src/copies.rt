@@ -1,11 +1,13 @@
 // Copies of responses, and of what they tell.
 ghost use Rattle.std.specs.Prelude.{◌≡◌, map, IfOk};
 ghost use Rattle.cedar_extensions.specs.Causes.{place_of};
-ghost use Rattle.cedar_evaluator.specs.Concrete.{cause_seen};
+ghost use Rattle.cedar_evaluator.specs.Concrete.{cause_seen, all_causes};
 ghost use Rattle.cedar_evaluator.specs.Copies.{error_in, TellsSame};
+ghost use Rattle.cedar_evaluator.specs.Holding.{holding_in, request_asked};
 
 use crate::authorizer::Authorizer;
 use crate::errors::AuthorizationError;
+use crate::partial_response::PartialResponse;
 use crate::reasons::Reasons;
 use crate::response::{Diagnostics, EvaluationResponse, Response};
 use std::alloc::{AllocError, Global};
@@ -84,6 +86,35 @@ impl Response {
         Ok(Response {
             decision: self.decision,
             diagnostics: self.diagnostics.clone(alloc)?,
+        })
+    }
+}
+
+impl PartialResponse {
+    /// A copy that shares ids, annotations, what is left of conditions, and the request; refused for memory
+    /// alone.
+    pub fn clone(&self, alloc: Global) -> Result<PartialResponse, AllocError>
+        ensures held { IfOk result (λ copy. holding_in copy ≡ holding_in self.now) }
+        ensures asked { IfOk result (λ copy. request_asked copy ≡ request_asked self.now) }
+        ensures causes { IfOk result (λ copy. all_causes copy ≡ all_causes self.now) }
+    {
+        let satisfied_permits = self.satisfied_permits.clone(alloc)?;
+        let false_permits = self.false_permits.clone(alloc)?;
+        let residual_permits = self.residual_permits.clone(alloc)?;
+        let satisfied_forbids = self.satisfied_forbids.clone(alloc)?;
+        let false_forbids = self.false_forbids.clone(alloc)?;
+        let residual_forbids = self.residual_forbids.clone(alloc)?;
+        let errors = copied(alloc, &self.errors)?;
+        let request = self.request.clone()?;
+        Ok(PartialResponse {
+            satisfied_permits,
+            false_permits,
+            residual_permits,
+            satisfied_forbids,
+            false_forbids,
+            residual_forbids,
+            errors,
+            request,
         })
     }
 }

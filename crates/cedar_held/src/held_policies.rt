@@ -65,7 +65,7 @@ impl HeldPolicies {
 
     /// Sees to it that a question finds the policies by what their scopes name, in place of looking at each. What
     /// was found so before stays, and what came since is added. Refused for memory alone; no policy changes either
-    /// way.
+    /// way, which is all that the contract promises.
     pub fn index(&mut self, alloc: Global) -> Result<(), AllocError>
         ensures { self.new ≡ self.old }
     {

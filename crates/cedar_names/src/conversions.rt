@@ -1,10 +1,11 @@
-// Conversions that take memory, and those between identifiers and names.
+// Conversions that take memory, those between identifiers and names, and a name as text.
 ghost use Rattle.std.specs.Prelude.{Result};
 
 use crate::errors::ConvertNameError;
 use crate::identifiers::{Id, UnreservedId};
 use crate::names::{InternalName, Name};
 use std::alloc::{AllocError, Global};
+use std::fmt;
 
 /// A conversion that takes memory, or may be refused.
 pub trait FromIn<X>: Sized {
@@ -83,5 +84,16 @@ impl FromIn<Name> for UnreservedId {
             return Err(ConvertNameError::HasNamespace);
         }
         Ok(name.basename(alloc)?)
+    }
+}
+
+impl fmt::Display for Name {
+    ghost use Rattle.std.specs.Prelude.{Some};
+    ghost use Rattle.cedar_names.specs.Names.{name_text};
+
+    ghost output = { λ name. Some (name_text name) };
+
+    fn fmt<W: fmt::Write>(&self, f: &mut fmt::Formatter<W>) -> fmt::Result {
+        fmt::Display::fmt(self.as_ref(), f)
     }
 }

@@ -496,14 +496,3 @@ impl fmt::Display for InternalName {
         write!(f, "{joined}")
     }
 }
-
-impl fmt::Display for Name {
-    ghost use Rattle.std.specs.Prelude.{Some};
-    ghost use Rattle.cedar_names.specs.Names.{name_text};
-
-    ghost output = { λ name. Some (name_text name) };
-
-    fn fmt<W: fmt::Write>(&self, f: &mut fmt::Formatter<W>) -> fmt::Result {
-        fmt::Display::fmt(&self.name, f)
-    }
-}

@@ -3,7 +3,7 @@ use Rattle.std.proofs.Common.{◌≡◌, true, false, refl, sym, ◌∙◌, ap, 
 use Rattle.std.proofs.lemmas.Bool.{and_parts}
 use Rattle.std.specs.Prelude.{Option, Some, None, cond}
 use Rattle.cedar_language.specs.Uid.{Text, Name}
-use Rattle.cedar_language.specs.Tree.{Boolean, Operator, Equal, GetAttr, HasAttr, Is, MakeSet, MakeRecord, Call, Tree, Lit, Var, Unknown, If, And, Or, Apply, Trees, no_trees, a_tree}
+use Rattle.cedar_language.specs.Tree.{Variable, ValueType, Boolean, Operator, Equal, GetAttr, HasAttr, Is, MakeSet, MakeRecord, Call, Tree, Lit, Var, Unknown, If, And, Or, Apply, Trees, no_trees, a_tree}
 use Rattle.cedar_language.specs.Value.{Value, Plain, Values, no_values, a_value}
 use Rattle.cedar_language.specs.Facts.{Facts}
 use Rattle.cedar_language.specs.Order.{same_text}
@@ -11,6 +11,7 @@ use Rattle.cedar_language.specs.Operators.{applied}
 use Rattle.cedar_partial_evaluation.specs.MadeAgain.{tree_of, trees_of}
 use Rattle.cedar_partial_evaluation.specs.Partial.{Answer, Evaluated, ResidualTree, Failed, Answers, AllEvaluated, SomeResiduals, SomeFailed, answer_of, best_effort, last_answer, and_answer, or_answer, if_answer, and_next, LeafAnswers, is_projectable, are_projectable, built_answer, projected_in, all_projected_in, found_tree, entry_answer, attribute_answer, has_entry_answer, has_answer, is_answer, stated_type, types_differ, equal_answer, residual_answer, apply_answer, partial_in, all_partial_in}
 use Rattle.cedar_partial_evaluation.specs.Alike.{AlikeBut, itself, differing, if_alike, and_alike, or_alike, apply_alike, AllAlikeBut, none_alike, more_alike, SameBut, AllSameBut, ProjectingIsEvaluating, gathered, is_some_left, WriteEach, GatheredAlwaysSplits}
+use Rattle.cedar_partial_evaluation.proofs.Passing.{plain_in}
 
 -- a tree that partial evaluation doesn't look into
 abbrev pub is_opaque : Tree → Bool
@@ -39,11 +40,6 @@ module _ (facts : Facts) (Differ : Tree → Tree → Type 0) (opaque : (s t : Tr
   apply_plain (MakeRecord ks) ts us h = h
   apply_plain _ ts us h = refl
 
-  are_plain_in : (op : Operator) (ts : Trees) → is_projectable (Apply op ts) ≡ true → are_projectable ts ≡ true
-  are_plain_in MakeSet ts h = h
-  are_plain_in (MakeRecord ks) ts h = h
-  are_plain_in _ ts h = cc
-
   mutual
     pub plain_alike : {s t : Tree} → AlikeBut Differ s t → is_projectable s ≡ is_projectable t
     plain_alike itself = refl
@@ -64,7 +60,7 @@ module _ (facts : Facts) (Differ : Tree → Tree → Type 0) (opaque : (s t : Tr
     one_alike (if_alike h i j) p = cc
     one_alike (and_alike h i) p = cc
     one_alike (or_alike h i) p = cc
-    one_alike (apply_alike {op} {ts} {us} h) p = ap (Apply op) (all_one_alike h (are_plain_in op ts p))
+    one_alike (apply_alike {op} {ts} {us} h) p = ap (Apply op) (all_one_alike h (plain_in op ts p).0)
 
     all_one_alike : {ts us : Trees} → AllAlikeBut Differ ts us → are_projectable ts ≡ true → ts ≡ us
     all_one_alike none_alike p = refl
@@ -77,11 +73,6 @@ module _ (facts : Facts) (Differ : Tree → Tree → Type 0) (opaque : (s t : Tr
   same_itself (Evaluated v) = refl
   same_itself (ResidualTree r) = (r, refl, itself)
   same_itself (Failed k) = refl
-
-  pub same_all_itself : (as_ : Answers) → AllSameBut Differ as_ as_
-  same_all_itself (AllEvaluated vs) = refl
-  same_all_itself (SomeResiduals rs) = (rs, refl, all_alike rs)
-  same_all_itself (SomeFailed k) = refl
 
   next_value : (v : Value) (as_ bs : Answers) → AllSameBut Differ as_ bs → AllSameBut Differ (and_next facts (Evaluated v) as_) (and_next facts (Evaluated v) bs)
   next_value v (AllEvaluated vs) bs h = ap (and_next facts (Evaluated v)) h
@@ -220,15 +211,6 @@ module _ (facts : Facts) (Differ : Tree → Tree → Type 0) (opaque : (s t : Tr
     residual_same (HasAttr a) (more_alike h none_alike) = has_same a h
     residual_same (Is ty) (more_alike h none_alike) = is_same ty h
     residual_same Equal (more_alike h (more_alike i none_alike)) = equal_same h i
-    residual_same (GetAttr a) none_alike = (Apply (GetAttr a) no_trees, refl, apply_alike none_alike)
-    residual_same (GetAttr a) (more_alike {t} {u} h (more_alike {t = v} {u = w} {ts = ts} {us = us} i j)) = (Apply (GetAttr a) (a_tree u (a_tree w us)), refl, apply_alike (more_alike h (more_alike i j)))
-    residual_same (HasAttr a) none_alike = (Apply (HasAttr a) no_trees, refl, apply_alike none_alike)
-    residual_same (HasAttr a) (more_alike {t} {u} h (more_alike {t = v} {u = w} {ts = ts} {us = us} i j)) = (Apply (HasAttr a) (a_tree u (a_tree w us)), refl, apply_alike (more_alike h (more_alike i j)))
-    residual_same (Is a) none_alike = (Apply (Is a) no_trees, refl, apply_alike none_alike)
-    residual_same (Is a) (more_alike {t} {u} h (more_alike {t = v} {u = w} {ts = ts} {us = us} i j)) = (Apply (Is a) (a_tree u (a_tree w us)), refl, apply_alike (more_alike h (more_alike i j)))
-    residual_same Equal none_alike = (Apply Equal no_trees, refl, apply_alike none_alike)
-    residual_same Equal (more_alike {t} {u} h none_alike) = (Apply Equal (a_tree u no_trees), refl, apply_alike (more_alike h none_alike))
-    residual_same Equal (more_alike {t} {u} h (more_alike {t = v} {u = w} i (more_alike {t = x} {u = y} {ts = ts} {us = us} j k))) = (Apply Equal (a_tree u (a_tree w (a_tree y us))), refl, apply_alike (more_alike h (more_alike i (more_alike j k))))
     residual_same op {rs} {ts} h = (Apply op ts, refl, apply_alike h)
 
     pub apply_same : (op : Operator) (as_ bs : Answers) → AllSameBut Differ as_ bs → SameBut Differ (apply_answer facts holds op as_) (apply_answer facts holds op bs)
@@ -289,8 +271,9 @@ module _ (facts : Facts) where
       projected_is (Lit l) h = refl
       projected_is (Unknown n ty) h = refl
       projected_is (Var v) h = refl
-      projected_is (Apply MakeSet ts) h = ap (built_answer facts MakeSet) (all_projected_are ts h) ∙ built_is MakeSet (all_partial_in facts holds ts) (λ rs. refl)
-      projected_is (Apply (MakeRecord ks) ts) h = ap (built_answer facts (MakeRecord ks)) (all_projected_are ts h) ∙ built_is (MakeRecord ks) (all_partial_in facts holds ts) (λ rs. refl)
+      projected_is (Apply op ts) h =
+          let (hs, stays) = plain_in op ts h in
+          ap (built_answer facts op) (all_projected_are ts hs) ∙ built_is op (all_partial_in facts holds ts) (stays facts holds)
       projected_is t h = cc
 
       all_projected_are : (ts : Trees) → are_projectable ts ≡ true → all_projected_in facts holds ts ≡ all_partial_in facts holds ts
@@ -298,6 +281,40 @@ module _ (facts : Facts) where
       all_projected_are (a_tree t ts) h =
           ap (λ a. and_next facts a (all_projected_in facts holds ts)) (projected_is t (and_parts (is_projectable t) (are_projectable ts) h).0)
           ∙ ap (and_next facts (partial_in facts holds t)) (all_projected_are ts (and_parts (is_projectable t) (are_projectable ts) h).1)
+
+-- ---- projecting has nothing to do with slots
+
+module _ (facts : Facts) (a b : LeafAnswers) (variable : (v : Variable) → a.variable v ≡ b.variable v)
+    (unknown : (n : Text) (ty : Option ValueType) → a.unknown n ty ≡ b.unknown n ty) where
+  mutual
+    projected_alike : (t : Tree) → projected_in facts a t ≡ projected_in facts b t
+    projected_alike (Unknown n ty) = unknown n ty
+    projected_alike (Var v) = variable v
+    projected_alike (Apply op ts) = ap (built_answer facts op) (all_projected_alike ts)
+    projected_alike (Lit l) = refl
+    projected_alike _ = refl
+
+    all_projected_alike : (ts : Trees) → all_projected_in facts a ts ≡ all_projected_in facts b ts
+    all_projected_alike no_trees = refl
+    all_projected_alike (a_tree t ts) = rw (projected_alike t, all_projected_alike ts) refl
+
+  entry_alike : (n : Text) (r : Tree) (plain : Bool) (o : Option Tree) → entry_answer facts a n r plain o ≡ entry_answer facts b n r plain o
+  entry_alike n r plain None = refl
+  entry_alike n r true (Some t) = projected_alike t
+  entry_alike n r false (Some t) = refl
+
+  attribute_alike : (n : Text) (r : Tree) → attribute_answer facts a n r ≡ attribute_answer facts b n r
+  attribute_alike n (Apply (MakeRecord ks) rs) = entry_alike n (Apply (MakeRecord ks) rs) (are_projectable rs) (found_tree ks rs n)
+  attribute_alike n _ = refl
+
+  pub residual_alike : (op : Operator) (rs : Trees) → residual_answer facts a op rs ≡ residual_answer facts b op rs
+  residual_alike (GetAttr n) (a_tree r no_trees) = attribute_alike n r
+  residual_alike _ _ = refl
+
+  pub applied_alike : (op : Operator) (ys : Answers) → apply_answer facts a op ys ≡ apply_answer facts b op ys
+  applied_alike op (AllEvaluated vs) = refl
+  applied_alike op (SomeResiduals rs) = residual_alike op rs
+  applied_alike op (SomeFailed k) = refl
 
 -- ---- operands
 

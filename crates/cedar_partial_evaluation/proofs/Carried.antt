@@ -1,17 +1,18 @@
 -- What is settled of a tree is settled of what an answer left of it, where that is so of leaves and operators.
-use Rattle.std.proofs.Common.{◌≡◌, Bool, true, false, not, cond, Option, Some, None, List, [], ◌∷◌, refl, sym, ◌∙◌, ap, subst}
-use Rattle.cedar_language.specs.Uid.{Text, Name}
-use Rattle.cedar_language.specs.Tree.{Boolean, Entity, Variable, Context, Operator, Equal, GetAttr, HasAttr, Tree, Lit, Var, Slot, Unknown, If, And, Or, Apply, Trees, no_trees, a_tree, EntityType}
+use Rattle.std.proofs.Common.{◌≡◌, true, false, not, Option, Some, None, List, [], ◌∷◌, refl, sym, ◌∙◌, ap, subst}
+use Rattle.cedar_language.specs.Uid.{Name}
+use Rattle.cedar_language.specs.Tree.{Boolean, Entity, Context, Operator, Equal, GetAttr, HasAttr, Tree, Lit, Var, Slot, Unknown, If, And, Or, Apply, Trees, no_trees, a_tree}
 use Rattle.cedar_language.specs.Tree as tree
 use Rattle.cedar_language.specs.Value.{Value, Plain, no_values}
 use Rattle.cedar_language.specs.Order.{same_name}
 use Rattle.cedar_language.specs.Facts.{Facts}
 use Rattle.cedar_language.specs.Operators.{applied}
-use Rattle.cedar_partial_evaluation.specs.Settling.{Settling, Open, Errs, Is, Settlings, SomeOpen, SomeErrs, AllAre, kindless, Below, boolean, and_settled, or_settled, if_settled, and_more, apply_settled, LeafSettlings, or_entry, stated_in, type_of_entity, type_known, equal_by_types, or_type, settled_in, all_settled_in, types_in}
+use Rattle.cedar_partial_evaluation.specs.Settling.{Settling, Open, Errs, Is, Settlings, SomeOpen, SomeErrs, AllAre, kindless, Below, boolean, and_settled, or_settled, if_settled, and_more, apply_settled, LeafSettlings, or_entry, stated_in, type_of_entity, type_known, or_type, settled_in, all_settled_in, types_in}
 use Rattle.cedar_partial_evaluation.specs.MadeAgain.{HoldsMade}
-use Rattle.cedar_partial_evaluation.specs.Partial.{Answer, Evaluated, ResidualTree, Failed, Answers, AllEvaluated, SomeResiduals, SomeFailed, best_effort, last_answer, and_answer, or_answer, if_answer, and_next, LeafAnswers, types_differ, residual_answer, apply_answer, partial_in, all_partial_in}
+use Rattle.cedar_partial_evaluation.specs.Partial.{Answer, Evaluated, ResidualTree, Failed, Answers, AllEvaluated, SomeResiduals, SomeFailed, best_effort, last_answer, and_answer, or_answer, if_answer, and_next, LeafAnswers, residual_answer, apply_answer, partial_in, all_partial_in}
 use Rattle.cedar_partial_evaluation.specs.Fair.{read, read_all, IsStated, IsMadeAnswer, AreMadeLeaves}
 use Rattle.cedar_partial_evaluation.specs.Seam.{CarriesTo}
+use Rattle.cedar_partial_evaluation.proofs.Typed.{leaf_stated, ShowTypes, types_fit}
 use Rattle.cedar_partial_evaluation.proofs.MadeAgain.{AreMadeAnswers, made, all_made}
 use Rattle.cedar_partial_evaluation.proofs.Sound.{tree_of_is, trees_of_are, errs_more, kindless_answer, other_type}
 
@@ -58,9 +59,6 @@ if_mono Errs y u z w v h k l = rw (← h) refl
 if_mono (Is (Plain (Boolean true))) y u z w v h k l = rw (← h) k
 if_mono (Is (Plain (Boolean false))) y u z w v h k l = rw (← h) l
 if_mono (Is _) y u z w v h k l = rw (← h) refl
-
-more_errs : (x : Settling) → and_more x SomeErrs ≡ SomeErrs
-more_errs x = refl
 
 pub refused_more : (x : Settling) (xs : Settlings) → Below x Errs → BelowAll (and_more x xs) SomeErrs
 refused_more x SomeErrs h = refl
@@ -142,21 +140,6 @@ equal_settles facts u w (Is (Plain (Entity a))) (Is (Plain (Entity b))) o p h k 
     rw (other_type a b u w g i d) refl
 equal_settles facts u w x y o p h k d = cc
 
-pub told_not : (b : Bool) (ty u : Name) → cond b (Some ty) None ≡ Some u → (b ≡ true) × (ty ≡ u)
-told_not true ty u h = (refl, cc)
-told_not false ty u h = cc
-
--- the type that is stated of a leaf is that of what is left of it
-pub leaf_stated : (around : LeafSettlings) (other : LeafSettlings) (holds : LeafAnswers) →
-    ((v : Variable) (ty : Name) → around.variable_type v ≡ Some ty → IsStated other (holds.variable v) ty) →
-    ((n : Text) (ty : Name) → around.untold n ≡ true → IsStated other (holds.unknown n (Some (EntityType ty))) ty) →
-    (facts : Facts) (t : Tree) (u : Name) → stated_in around t ≡ Some u → IsStated other (partial_in facts holds t) u
-leaf_stated around other holds f g facts (Var v) u h = f v u h
-leaf_stated around other holds f g facts (Unknown n (Some (EntityType ty))) u h =
-    let (b, e) = told_not (around.untold n) ty u h in
-    subst (λ (y : Name). IsStated other (holds.unknown n (Some (EntityType ty))) y) e (g n ty b)
-leaf_stated around other holds f g facts t u h = cc
-
 -- ---- what is carried
 
 module _ (facts : Facts) (good : HoldsMade facts) (later around : LeafSettlings) where
@@ -228,45 +211,6 @@ module _ (facts : Facts) (good : HoldsMade facts) (later around : LeafSettlings)
       apply_carries op xs (SomeResiduals rs) h = below_trans _ _ _ (apply_mono facts op xs (all_settled_in facts around rs) h) (left op rs)
       apply_carries op xs (SomeFailed k) h = apply_mono facts op xs SomeErrs h
 
-      is_carried : (ty : Name) (s : Tree) (o : Option Name) (x : Settling) → ((u : Name) → o ≡ Some u → answer_type facts around (partial_in facts holds s) ≡ Some u) →
-          Below x (read facts around (apply_answer facts holds (tree.Is ty) (all_partial_in facts holds (a_tree s no_trees)))) →
-          Below (or_type (tree.Is ty) (o ∷ []) x) (read facts around (apply_answer facts holds (tree.Is ty) (all_partial_in facts holds (a_tree s no_trees))))
-      is_carried ty s (Some u) Open f b = answers_is ty u (partial_in facts holds s) (f u refl)
-      is_carried ty s None Open f b = tt
-      is_carried ty s o Errs f b = b
-      is_carried ty s o (Is v) f b = b
-
-      differing_carried : (s t : Tree) (b : Bool) (o p : Option Name) → types_differ o p ≡ b →
-          ((u : Name) → o ≡ Some u → answer_type facts around (partial_in facts holds s) ≡ Some u) →
-          ((u : Name) → p ≡ Some u → answer_type facts around (partial_in facts holds t) ≡ Some u) →
-          Below (equal_by_types b) (read facts around (apply_answer facts holds Equal (all_partial_in facts holds (a_tree s (a_tree t no_trees)))))
-      differing_carried s t true (Some u) (Some w) e f g = answers_equal u w (partial_in facts holds s) (partial_in facts holds t) (f u refl) (g w refl) e
-      differing_carried s t true (Some u) None e f g = cc
-      differing_carried s t true None p e f g = cc
-      differing_carried s t false o p e f g = tt
-
-      equal_carried : (s t : Tree) (o p : Option Name) (x : Settling) →
-          ((u : Name) → o ≡ Some u → answer_type facts around (partial_in facts holds s) ≡ Some u) →
-          ((u : Name) → p ≡ Some u → answer_type facts around (partial_in facts holds t) ≡ Some u) →
-          Below x (read facts around (apply_answer facts holds Equal (all_partial_in facts holds (a_tree s (a_tree t no_trees))))) →
-          Below (or_type Equal (o ∷ p ∷ []) x) (read facts around (apply_answer facts holds Equal (all_partial_in facts holds (a_tree s (a_tree t no_trees)))))
-      equal_carried s t o p Open f g b = differing_carried s t (types_differ o p) o p refl f g
-      equal_carried s t o p Errs f g b = b
-      equal_carried s t o p (Is v) f g b = b
-
-      -- of each operand the type that is known is known by its answer
-      abbrev TypesCarry : Trees → Type 0
-      TypesCarry no_trees = Unit {0}
-      TypesCarry (a_tree t ts) =
-          ((u : Name) → type_known (settled_in facts later t) (stated_in later t) ≡ Some u → answer_type facts around (partial_in facts holds t) ≡ Some u) × TypesCarry ts
-
-      types_carried : (op : Operator) (ts : Trees) (x : Settling) → TypesCarry ts → Below x (read facts around (apply_answer facts holds op (all_partial_in facts holds ts))) →
-          Below (or_type op (types_in facts later ts) x) (read facts around (apply_answer facts holds op (all_partial_in facts holds ts)))
-      types_carried (tree.Is ty) (a_tree s no_trees) x f b = is_carried ty s (type_known (settled_in facts later s) (stated_in later s)) x f.0 b
-      types_carried Equal (a_tree s (a_tree t no_trees)) x f b =
-          equal_carried s t (type_known (settled_in facts later s) (stated_in later s)) (type_known (settled_in facts later t) (stated_in later t)) x f.0 f.1.0 b
-      types_carried op ts x f b = b
-
       entry_carried : (op : Operator) (ts : Trees) (x : Settling) → Below x (read facts around (apply_answer facts holds op (all_partial_in facts holds ts))) →
           Below (or_entry later op ts x) (read facts around (apply_answer facts holds op (all_partial_in facts holds ts)))
       entry_carried (GetAttr a) (a_tree (Var Context) no_trees) Open m = carries.in_context a
@@ -283,7 +227,9 @@ module _ (facts : Facts) (good : HoldsMade facts) (later around : LeafSettlings)
         carried (Or l r) = or_carries (partial_in facts holds l) (partial_in facts holds r) l r (made facts good holds leaves r) (carried l) (carried r)
         carried (If t y n) = if_carries (partial_in facts holds t) (partial_in facts holds y) (partial_in facts holds n) t y n (made facts good holds leaves y) (made facts good holds leaves n) (carried t) (carried y) (carried n)
         carried (Apply op ts) =
-            types_carried op ts (or_entry later op ts (apply_settled facts op (all_settled_in facts later ts))) (all_types ts)
+            types_fit facts later holds (answer_type facts around) (λ t x p. Below x (read facts around p))
+            (λ ty u s h. answers_is ty u (partial_in facts holds s) h) (λ u w s t h k d. answers_equal u w (partial_in facts holds s) (partial_in facts holds t) h k d)
+            op ts (or_entry later op ts (apply_settled facts op (all_settled_in facts later ts))) (all_types ts)
             (entry_carried op ts (apply_settled facts op (all_settled_in facts later ts))
             (apply_carries op (all_settled_in facts later ts) (all_partial_in facts holds ts) (all_carried ts)))
 
@@ -291,7 +237,7 @@ module _ (facts : Facts) (good : HoldsMade facts) (later around : LeafSettlings)
         all_carried no_trees = refl
         all_carried (a_tree t ts) = more_carries (partial_in facts holds t) (all_partial_in facts holds ts) t ts (made facts good holds leaves t) (all_made facts good holds leaves ts) (carried t) (all_carried ts)
 
-        all_types : (ts : Trees) → TypesCarry ts
+        all_types : (ts : Trees) → ShowTypes facts later holds (answer_type facts around) ts
         all_types no_trees = tt
         all_types (a_tree t ts) = (
           (λ u h. type_carried facts around (partial_in facts holds t) u (settled_in facts later t) (stated_in later t)

@@ -3,10 +3,10 @@ use Rattle.std.proofs.Common.{◌≡◌, ◌⊎◌, inl, inr, Bool, true, false,
 use Rattle.std.proofs.lemmas.Bool.{and_parts}
 use Rattle.std.specs.FinMap as finite
 use Rattle.cedar_language.specs.Uid.{Text}
-use Rattle.cedar_language.specs.Tree.{Operator, MakeSet, MakeRecord, Call, Tree, Lit, Unknown, Apply, Trees, no_trees, a_tree, ValueType}
+use Rattle.cedar_language.specs.Tree.{Operator, Tree, Lit, Unknown, Apply, Trees, no_trees, a_tree, ValueType}
 use Rattle.cedar_language.specs.Value.{Value, Values, Kind, TypeError, Outcome, Gives, Fails}
 use Rattle.cedar_language.specs.Facts.{Facts}
-use Rattle.cedar_language.specs.Meaning.{Outcomes, GivesAll, OneFails, more_of, apply_of, meaning, meanings}
+use Rattle.cedar_language.specs.Meaning.{meaning}
 use Rattle.cedar_language.specs.Restricted.{is_restricted, are_restricted}
 use Rattle.cedar_partial_evaluation.specs.Partial.{Answer, Evaluated, ResidualTree, Failed, Answers, AllEvaluated, SomeResiduals, SomeFailed, answer_of, and_next, LeafAnswers, residual_answer, apply_answer, partial_in, all_partial_in}
 use Rattle.cedar_partial_evaluation.specs.Prompt.{IsRefused}
@@ -14,25 +14,17 @@ use Rattle.cedar_partial_evaluation.specs.Unknowns.{fits, EachUnknown, EachUnkno
 use Rattle.cedar_partial_evaluation.specs.Question.{Told, value_held, name_held, held_names}
 use Rattle.cedar_partial_evaluation.specs.Filling.{name_outcome, names_told}
 use Rattle.cedar_partial_evaluation.specs.DataErrors.{IsPart, whole, inside, IsPartOfOne, of_first, of_later, FailsOnceTold, HasErringPart, DataErrsInParts}
+use Rattle.cedar_partial_evaluation.proofs.Passing.{data_in, of_data, data_passes}
+use Rattle.cedar_partial_evaluation.proofs.Known.{answered_at}
 use Rattle.cedar_partial_evaluation.proofs.Question.{next_known}
 
-abbrev answers_of : Outcomes → Answers
-answers_of (GivesAll vs) = AllEvaluated vs
-answers_of (OneFails k) = SomeFailed k
-
-value_answer : (b : Bool) (v : Value) → value_held b v ≡ answer_of (cond b (Gives v) (Fails TypeError))
+pub value_answer : (b : Bool) (v : Value) → value_held b v ≡ answer_of (cond b (Gives v) (Fails TypeError))
 value_answer true v = refl
 value_answer false v = refl
 
 fails_so : (o : Outcome) (k : Kind) → answer_of o ≡ Failed k → o ≡ Fails k
 fails_so (Gives v) k h = cc
 fails_so (Fails j) k h = let same : j ≡ k = cc in ap (λ x. Fails x) same
-
-restricted_in : (op : Operator) (ts : Trees) → is_restricted (Apply op ts) ≡ true → are_restricted ts ≡ true
-restricted_in MakeSet ts h = h
-restricted_in (MakeRecord ks) ts h = h
-restricted_in (Call f) ts h = h
-restricted_in _ ts h = cc
 
 module _ (facts : Facts) (told : Told) where
   abbrev holds : LeafAnswers
@@ -41,34 +33,14 @@ module _ (facts : Facts) (told : Told) where
   abbrev IsTold : Text → Option ValueType → Type 0
   IsTold n ty = (v : Value) × (finite.get told n ≡ Some v)
 
-  more_answers : (o : Outcome) (os : Outcomes) → and_next facts (answer_of o) (answers_of os) ≡ answers_of (more_of o os)
-  more_answers (Gives v) (GivesAll vs) = refl
-  more_answers (Gives v) (OneFails k) = refl
-  more_answers (Fails k) os = refl
-
-  applied_answer : (op : Operator) (os : Outcomes) → apply_answer facts holds op (answers_of os) ≡ answer_of (apply_of facts op os)
-  applied_answer op (GivesAll vs) = refl
-  applied_answer op (OneFails k) = refl
-
   -- ---- data all of whose names are told
 
   name_answer : (n : Text) (ty : Option ValueType) (v : Value) → finite.get told n ≡ Some v → name_held (finite.get told n) n ty ≡ answer_of (name_outcome (finite.get told n) ty)
   name_answer n ty v e = rw e (value_answer (fits ty v) v)
 
-  mutual
-    data_answer : (t : Tree) → is_restricted t ≡ true → EachUnknown IsTold t → partial_in facts holds t ≡ answer_of (meaning facts (names_told told) t)
-    data_answer (Lit l) h given = refl
-    data_answer (Unknown n ty) h (v, e) = name_answer n ty v e
-    data_answer (Apply MakeSet ts) h given = ap (apply_answer facts holds MakeSet) (all_data_answer ts h given) ∙ applied_answer MakeSet (meanings facts (names_told told) ts)
-    data_answer (Apply (MakeRecord ks) ts) h given = ap (apply_answer facts holds (MakeRecord ks)) (all_data_answer ts h given) ∙ applied_answer (MakeRecord ks) (meanings facts (names_told told) ts)
-    data_answer (Apply (Call f) ts) h given = ap (apply_answer facts holds (Call f)) (all_data_answer ts h given) ∙ applied_answer (Call f) (meanings facts (names_told told) ts)
-    data_answer _ h given = cc
-
-    all_data_answer : (ts : Trees) → are_restricted ts ≡ true → EachUnknownOf IsTold ts → all_partial_in facts holds ts ≡ answers_of (meanings facts (names_told told) ts)
-    all_data_answer no_trees h given = refl
-    all_data_answer (a_tree t ts) h (now, later) =
-        let (ht, hts) = and_parts (is_restricted t) (are_restricted ts) h in
-        rw (data_answer t ht now, all_data_answer ts hts later) (more_answers (meaning facts (names_told told) t) (meanings facts (names_told told) ts))
+  data_answer : (t : Tree) → is_restricted t ≡ true → EachUnknown IsTold t → partial_in facts holds t ≡ answer_of (meaning facts (names_told told) t)
+  data_answer t h given =
+      answered_at facts (names_told told) holds (of_data IsTold) (λ v k. absurd k) (λ n ty k. name_answer n ty k.0 k.1) (λ s k. absurd k) t (data_passes IsTold t h given)
 
   -- ---- data that is evaluated
 
@@ -86,9 +58,10 @@ module _ (facts : Facts) (told : Told) where
     evaluated_told : (t : Tree) → is_restricted t ≡ true → (v : Value) → partial_in facts holds t ≡ Evaluated v → EachUnknown IsTold t
     evaluated_told (Lit l) r v h = tt
     evaluated_told (Unknown n ty) r v h = name_told n ty (finite.get told n) v refl h
-    evaluated_told (Apply MakeSet ts) r v h = let (vs, e) = strict_values MakeSet (all_partial_in facts holds ts) v (λ rs. refl) h in all_evaluated_told ts r vs e
-    evaluated_told (Apply (MakeRecord ks) ts) r v h = let (vs, e) = strict_values (MakeRecord ks) (all_partial_in facts holds ts) v (λ rs. refl) h in all_evaluated_told ts r vs e
-    evaluated_told (Apply (Call f) ts) r v h = let (vs, e) = strict_values (Call f) (all_partial_in facts holds ts) v (λ rs. refl) h in all_evaluated_told ts r vs e
+    evaluated_told (Apply op ts) r v h =
+        let (rs, stays) = data_in op ts r in
+        let (vs, e) = strict_values op (all_partial_in facts holds ts) v (stays facts holds) h in
+        all_evaluated_told ts rs vs e
     evaluated_told _ r v h = cc
 
     all_evaluated_told : (ts : Trees) → are_restricted ts ≡ true → (vs : Values) → all_partial_in facts holds ts ≡ AllEvaluated vs → EachUnknownOf IsTold ts
@@ -145,15 +118,10 @@ module _ (facts : Facts) (told : Told) where
     refused : (t : Tree) → is_restricted t ≡ true → (k : Kind) → partial_in facts holds t ≡ Failed k → HasErringPart facts told t
     refused (Lit l) r k h = cc
     refused (Unknown n ty) r k h = whole_refused (Unknown n ty) refl (name_refused n ty (finite.get told n) k refl h) k h
-    refused (Apply MakeSet ts) r k h =
-        strict_refused MakeSet ts (all_partial_in facts holds ts) k refl (λ rs. refl) h
-        (λ vs e. whole_refused (Apply MakeSet ts) r (all_evaluated_told ts r vs e) k h) (λ j e. errs_below MakeSet ts (one_refused ts r j e))
-    refused (Apply (MakeRecord ks) ts) r k h =
-        strict_refused (MakeRecord ks) ts (all_partial_in facts holds ts) k refl (λ rs. refl) h
-        (λ vs e. whole_refused (Apply (MakeRecord ks) ts) r (all_evaluated_told ts r vs e) k h) (λ j e. errs_below (MakeRecord ks) ts (one_refused ts r j e))
-    refused (Apply (Call f) ts) r k h =
-        strict_refused (Call f) ts (all_partial_in facts holds ts) k refl (λ rs. refl) h
-        (λ vs e. whole_refused (Apply (Call f) ts) r (all_evaluated_told ts r vs e) k h) (λ j e. errs_below (Call f) ts (one_refused ts r j e))
+    refused (Apply op ts) r k h =
+        let (rs, stays) = data_in op ts r in
+        strict_refused op ts (all_partial_in facts holds ts) k refl (stays facts holds) h
+        (λ vs e. whole_refused (Apply op ts) r (all_evaluated_told ts rs vs e) k h) (λ j e. errs_below op ts (one_refused ts rs j e))
     refused _ r k h = cc
 
     one_refused : (ts : Trees) → are_restricted ts ≡ true → (k : Kind) → all_partial_in facts holds ts ≡ SomeFailed k → OneErrs ts
@@ -173,7 +141,7 @@ module _ (facts : Facts) (told : Told) where
     part_fails : {p t : Tree} → IsPart p t → is_restricted t ≡ true → FailsOnceTold facts told p → IsRefused facts holds t
     part_fails (whole {t = t}) r (given, k, e) = (k, data_answer t r given ∙ ap answer_of e)
     part_fails (inside {op = op} {ts = ts} i) r fails =
-        let (k, e) = one_fails i (restricted_in op ts r) fails in
+        let (k, e) = one_fails i (data_in op ts r).0 fails in
         (k, ap (apply_answer facts holds op) e)
 
     one_fails : {p : Tree} {ts : Trees} → IsPartOfOne p ts → are_restricted ts ≡ true → FailsOnceTold facts told p → (k : Kind) × (all_partial_in facts holds ts ≡ SomeFailed k)

@@ -1,43 +1,39 @@
 -- Early answers are fair and prompt.
-use Rattle.std.proofs.Common.{◌≡◌, Bool, true, false, cond, Option, Some, List, [], ◌∷◌, refl, sym, ◌∙◌, ap}
+use Rattle.std.proofs.Common.{◌≡◌, true, false, Option, Some, List, [], ◌∷◌, refl, sym, ◌∙◌, ap}
 use Rattle.std.specs.FinMap as finite
 use Rattle.std.specs.Prelude.{map, codes}
 use Rattle.std.proofs.lemmas.List.Elements.{All-head, All-tail}
 use Rattle.cedar_language.specs.Uid.{Text, Uid}
-use Rattle.cedar_language.specs.Tree.{Boolean, Long, String, Entity, ValueType, Variable, Principal, Action, Resource, Context, MakeRecord, Tree, Apply}
-use Rattle.cedar_language.specs.Value.{Value, Plain, SetOf, RecordOf, ExtensionOf, Kind, TypeError, Outcome, Gives, Fails}
+use Rattle.cedar_language.specs.Tree.{Boolean, Entity, ValueType, Variable, Principal, Action, Resource, Context, MakeRecord, Tree, Apply}
+use Rattle.cedar_language.specs.Value.{Value, Plain, Kind, TypeError, Outcome, Gives, Fails}
 use Rattle.cedar_language.specs.Facts.{Facts}
 use Rattle.cedar_language.specs.Meaning.{Slots, meaning}
 use Rattle.cedar_language.specs.Answering.{Erring, is_residual, ComesTo, Comes, Come, none_come, one_comes, Fills, Filled, nothing, a_policy, Standing, Satisfied, Unsatisfied, Residual, Judged, StillErrs, At, at_first, at_later}
 use Rattle.cedar_language.specs.Authorization as authorization
 use Rattle.cedar_language.specs.Authorization.{Policy, standing_of, request_at}
-use Rattle.cedar_partial_evaluation.specs.Unknowns.{fits}
+use Rattle.cedar_partial_evaluation.specs.Unknowns.{fits, of_unknowns}
 use Rattle.cedar_partial_evaluation.specs.Settling.{Settling, Open, Errs, Is, kindless, Below, LeafSettlings, settled_in}
 use Rattle.cedar_partial_evaluation.specs.MadeAgain.{HoldsMade}
 use Rattle.cedar_partial_evaluation.specs.Partial.{Answer, Evaluated, ResidualTree, Failed, answer_of, partial_in}
 use Rattle.cedar_partial_evaluation.specs.Fair.{read}
 use Rattle.cedar_partial_evaluation.specs.Prompt.{Meets, without_kind}
-use Rattle.cedar_partial_evaluation.specs.Question.{Part, Given, Missing, Entries, NoContext, WithEntries, Question, Told, value_held, name_held, settled_names, held_names, part_held, context_held, variable_held, settled_of, held_of, Extends, AreMadeTold, IsAccepted}
+use Rattle.cedar_partial_evaluation.specs.Question.{Part, Given, Missing, Entries, NoContext, WithEntries, Question, Told, name_held, settled_names, held_names, part_held, context_held, variable_held, settled_of, held_of, Extends, AreMadeTold, IsAccepted}
 use Rattle.cedar_partial_evaluation.specs.Filling.{GivesEach, TellsEach, FillsPart, FillsContext, IsFilling, name_outcome, request_filled, filled}
 use Rattle.cedar_partial_evaluation.specs.Early.{judged_filled, standing_of_answer, judged_early, standing_settled, judged_settled, GivesPolicies, EarlyAnswersAreFair, EarlyAnswersArePrompt, EarlyKindsAreSettled, AllToldIsKnown, LastAnswersAreExact, FilledIsKnown}
 use Rattle.cedar_partial_evaluation.proofs.Known.{answered_at}
+use Rattle.cedar_partial_evaluation.proofs.DataErrors.{value_answer}
 use Rattle.cedar_partial_evaluation.proofs.Carried.{below_refl, below_trans}
 use Rattle.cedar_partial_evaluation.proofs.Prompt.{is_prompt}
 use Rattle.cedar_partial_evaluation.proofs.Question.{meets_below, settled_mono, names_made, names_shown}
 use Rattle.cedar_partial_evaluation.proofs.Filling.{below_closed, means_filled, context_not, answers_are_fair, answers_prompt, context_filled}
-use Rattle.cedar_partial_evaluation.proofs.Mentions.{names_dont_matter}
+use Rattle.cedar_partial_evaluation.proofs.Leaves.{names_dont_matter}
 use Rattle.cedar_language.proofs.Answering.{rules_are_fair, rules_are_sharp}
 
 -- what an outcome is, from what is settled
 pub left_comes : (facts : Facts) (around : LeafSettlings) (p : Answer) (o : Outcome) → read facts around p ≡ kindless o → ComesTo (standing_of_answer p) (standing_of o) × StillErrs (standing_of_answer p) (standing_of o)
 left_comes facts around (Evaluated (Plain (Boolean true))) (Gives w) h = let e : Plain (Boolean true) ≡ w = cc in rw (← e) (refl, tt)
 left_comes facts around (Evaluated (Plain (Boolean false))) (Gives w) h = let e : Plain (Boolean false) ≡ w = cc in rw (← e) (tt, tt)
-left_comes facts around (Evaluated (Plain (Long n))) (Gives w) h = let e : Plain (Long n) ≡ w = cc in rw (← e) (tt, (TypeError, refl))
-left_comes facts around (Evaluated (Plain (String s))) (Gives w) h = let e : Plain (String s) ≡ w = cc in rw (← e) (tt, (TypeError, refl))
-left_comes facts around (Evaluated (Plain (Entity u))) (Gives w) h = let e : Plain (Entity u) ≡ w = cc in rw (← e) (tt, (TypeError, refl))
-left_comes facts around (Evaluated (SetOf vs)) (Gives w) h = let e : SetOf vs ≡ w = cc in rw (← e) (tt, (TypeError, refl))
-left_comes facts around (Evaluated (RecordOf ks vs)) (Gives w) h = let e : RecordOf ks vs ≡ w = cc in rw (← e) (tt, (TypeError, refl))
-left_comes facts around (Evaluated (ExtensionOf x)) (Gives w) h = let e : ExtensionOf x ≡ w = cc in rw (← e) (tt, (TypeError, refl))
+left_comes facts around (Evaluated v) (Gives w) h = let e : v ≡ w = cc in rw (← e) (tt, (TypeError, refl))
 left_comes facts around (Evaluated v) (Fails k) h = cc
 left_comes facts around (ResidualTree r) o h = (tt, tt)
 left_comes facts around (Failed k) (Gives w) h = cc
@@ -125,10 +121,6 @@ part_known : (p : Part) (o : Option Value) (n : Text) (w : Uid) → FillsPart p 
 part_known (Given u) o n w h = rw h refl
 part_known (Missing ty) o n w (e, fit) = rw (e, fit) refl
 
-value_known : (b : Bool) (v : Value) → value_held b v ≡ answer_of (cond b (Gives v) (Fails TypeError))
-value_known true v = refl
-value_known false v = refl
-
 module _ (facts : Facts) (good : HoldsMade facts) (q : Question) (slots : Slots) (filling : Told) (known : authorization.Known) (all_made : AreMadeTold facts filling) (fills : IsFilling facts q filling known) where
   context_known : (c : Entries) → FillsContext facts c filling known.context → context_held facts filling c ≡ Evaluated known.context
   context_known NoContext (e, fit) = rw e refl
@@ -146,10 +138,10 @@ module _ (facts : Facts) (good : HoldsMade facts) (q : Question) (slots : Slots)
   IsTold n ty = (v : Value) × (finite.get filling n ≡ Some v)
 
   name_known : (n : Text) (ty : Option ValueType) → IsTold n ty → name_held (finite.get filling n) n ty ≡ answer_of (name_outcome (finite.get filling n) ty)
-  name_known n ty (v, e) = rw e (value_known (fits ty v) v)
+  name_known n ty (v, e) = rw e (value_answer (fits ty v) v)
 
   all_known : (t : Tree) → TellsEach filling t → partial_in facts (held_of facts q slots filling) t ≡ answer_of (meaning facts (request_filled known slots filling) t)
-  all_known t told = answered_at facts (request_filled known slots filling) (held_of facts q slots filling) IsTold variable_known name_known (λ s. refl) t told
+  all_known t told = answered_at facts (request_filled known slots filling) (held_of facts q slots filling) (of_unknowns IsTold) (λ v h. variable_known v) name_known (λ s h. refl) t told
 
   accepted : IsAccepted facts filling q.context
   accepted = record {

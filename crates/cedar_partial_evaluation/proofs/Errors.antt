@@ -1,30 +1,29 @@
 -- Settling to an error, and to a kind of error.
-use Rattle.std.proofs.Common.{◌≡◌, ◌≢◌, Bool, true, false, ◌&&◌, Option, Some, None, List, [], ◌∷◌, refl, sym, ◌∙◌, ap}
-use Rattle.std.proofs.lemmas.Bool.{and_parts}
+use Rattle.std.proofs.Common.{◌≡◌, ◌≢◌, Bool, true, false, Option, Some, None, List, [], ◌∷◌, refl, sym, ◌∙◌, ap}
 use Rattle.std.specs.FinMap as finite
-use Rattle.std.specs.Prelude.{codes}
 use Rattle.cedar_language.specs.Uid.{Text, Name}
-use Rattle.cedar_language.specs.Tree.{Boolean, Variable, Principal, Action, Resource, Context, SlotId, Operator, Equal, GetAttr, HasAttr, MakeRecord, Tree, Lit, Var, Slot, Unknown, If, And, Or, Apply, Trees, no_trees, a_tree, ValueType}
+use Rattle.cedar_language.specs.Tree.{Boolean, Variable, Context, SlotId, Operator, Equal, GetAttr, HasAttr, MakeRecord, Tree, Lit, Var, Slot, Unknown, If, And, Or, Apply, Trees, no_trees, a_tree, ValueType}
 use Rattle.cedar_language.specs.Tree as tree
 use Rattle.cedar_language.specs.Value.{Value, Plain, RecordOf, Values, Kind, TypeError, RecordAttrDoesNotExist, UnlinkedSlot, Outcome, Gives, Fails}
 use Rattle.cedar_language.specs.Facts.{Facts}
 use Rattle.cedar_language.specs.Operators.{attribute, or_fails, applied}
 use Rattle.cedar_language.specs.Means.{IsNotBoolean}
-use Rattle.cedar_language.specs.Meaning.{Slots, GivesAll, OneFails, meaning, meanings}
+use Rattle.cedar_language.specs.Meaning.{Slots}
 use Rattle.cedar_language.specs.Authorization as authorization
 use Rattle.cedar_language.specs.Authorization.{request_at}
 use Rattle.cedar_partial_evaluation.specs.Settling.{Settling, Open, Errs, Is, Settlings, SomeOpen, SomeErrs, AllAre, kindless, boolean, and_settled, or_settled, if_settled, and_more, apply_settled, LeafSettlings, or_entry, equal_by_types, or_type, settled_in, all_settled_in, types_in}
 use Rattle.cedar_partial_evaluation.specs.Partial.{found_tree}
 use Rattle.cedar_partial_evaluation.specs.Prompt.{ErrsAs, unbound, and_left, and_right, and_left_type, and_right_type, or_left, or_right, or_left_type, or_right_type, if_test, if_type, if_then, if_else, operands, operator, no_entry, FirstErrsAs, here, behind_value, behind_open, behind_erring}
-use Rattle.cedar_partial_evaluation.specs.Question.{Part, Given, Missing, Entries, NoContext, WithEntries, Question, Told, entity_type, value_settled, name_settled, settled_names, are_simple, only_value, entry_settled, has_settled, in_context, has_in_context, part_settled, context_settled, variable_settled, settled_of}
-use Rattle.cedar_partial_evaluation.specs.Unknowns.{fits, types_differ}
+use Rattle.cedar_partial_evaluation.specs.Question.{Entries, NoContext, WithEntries, Question, Told, settled_names, are_simple, only_value, entry_settled, has_settled, in_context, has_in_context, context_settled, settled_of}
+use Rattle.cedar_partial_evaluation.specs.Unknowns.{types_differ}
 use Rattle.cedar_partial_evaluation.specs.Filling.{ErrsEverywhere}
-use Rattle.cedar_partial_evaluation.specs.Mentions.{mentions_only, all_mention_only, is_known}
-use Rattle.cedar_partial_evaluation.specs.Leaves.{HasGiven}
+use Rattle.cedar_partial_evaluation.specs.Mentions.{is_known}
 use Rattle.cedar_partial_evaluation.specs.Errors.{SettlingIsOne}
-use Rattle.cedar_partial_evaluation.proofs.Sound.{errs_more, not_found_is_at, type_errs}
-use Rattle.cedar_partial_evaluation.proofs.Known.{and_not, or_not, if_not, boolean_not, never_open, is_value, are_values, unbound_is}
-use Rattle.cedar_partial_evaluation.proofs.Leaves.{mentioned_settles, all_mentioned_settle, variable_result}
+use Rattle.cedar_partial_evaluation.proofs.Sound.{errs_more, not_found_is_at, applied_errs}
+use Rattle.cedar_partial_evaluation.proofs.Question.{name_not, each_not}
+use Rattle.cedar_partial_evaluation.proofs.Passing.{mentioned_alone, mentioned}
+use Rattle.cedar_partial_evaluation.proofs.Known.{kind_at}
+use Rattle.cedar_partial_evaluation.proofs.Leaves.{variable_result}
 
 -- ---- what is not Boolean
 
@@ -43,14 +42,6 @@ if_errs _ y z h = refl
 boolean_errs : (v : Value) → IsNotBoolean v → boolean (Is v) ≡ Errs
 boolean_errs (Plain (Boolean b)) h = absurd h
 boolean_errs _ h = refl
-
-entry_errs : (around : LeafSettlings) (op : Operator) (ts : Trees) → or_entry around op ts Errs ≡ Errs
-entry_errs around (GetAttr a) (a_tree (Var Context) no_trees) = refl
-entry_errs around (HasAttr a) (a_tree (Var Context) no_trees) = refl
-entry_errs around op ts = refl
-
-applied_errs : (around : LeafSettlings) (op : Operator) (os : List (Option Name)) (ts : Trees) → or_type op os (or_entry around op ts Errs) ≡ Errs
-applied_errs around op os ts = ap (or_type op os) (entry_errs around op ts) ∙ type_errs op os
 
 abbrev context_entry : Text → Tree
 context_entry a = Apply (GetAttr a) (a_tree (Var Context) no_trees)
@@ -224,18 +215,6 @@ module _ (facts : Facts) (around : LeafSettlings) (everywhere : Tree → Type 0)
 
 -- ---- a question
 
-value_never : (b : Bool) (v : Value) → value_settled b v ≢ Errs
-value_never true v h = cc
-value_never false v h = cc
-
-name_never : (o : Option Value) (ty : Option ValueType) → name_settled o ty ≢ Errs
-name_never (Some v) ty = value_never (fits ty v) v
-name_never None ty = λ h. cc
-
-part_never : (p : Part) (o : Option Value) → part_settled p o ≢ Errs
-part_never (Given u) o h = cc
-part_never (Missing ty) o h = name_never o (entity_type ty) h
-
 has_never : (b : Bool) (o : Option Tree) → has_settled b o ≢ Errs
 has_never true (Some t) h = cc
 has_never true None h = cc
@@ -288,76 +267,17 @@ module _ (facts : Facts) (q : Question) (slots : Slots) (told : Told) (everywher
   question_errs : (t : Tree) (k : Kind) → ErrsAs facts (settled_of facts q slots told) everywhere t k → settled_in facts (settled_of facts q slots told) t ≡ Errs
   question_errs t k h = errs facts (settled_of facts q slots told) everywhere (λ a e. missing_errs facts told q.context a (settled_of facts q slots told) e refl e) h
 
-  question_never : context_settled facts told q.context ≢ Errs → (v : Variable) → variable_settled facts q told v ≢ Errs
-  question_never fine Principal h = part_never q.principal (finite.get told (codes "principal")) h
-  question_never fine Action h = part_never q.action (finite.get told (codes "action")) h
-  question_never fine Resource h = part_never q.resource (finite.get told (codes "resource")) h
-  question_never fine Context h = fine h
-
   question_kind : context_settled facts told q.context ≢ Errs → (t : Tree) → settled_in facts (settled_of facts q slots told) t ≡ Errs → (k : Kind) × ErrsAs facts (settled_of facts q slots told) everywhere t k
   question_kind fine t e =
-      kind_of facts (settled_of facts q slots told) everywhere (question_never fine) (λ n ty. name_never (finite.get told n) ty) (has_entry_never facts told q.context) t
+      kind_of facts (settled_of facts q slots told) everywhere (each_not facts q told fine) (λ n ty. name_not (finite.get told n) ty) (has_entry_never facts told q.context) t
       (settled_in facts (settled_of facts q slots told) t)
-      (has_kind facts (settled_of facts q slots told) everywhere (question_never fine) (λ n ty. name_never (finite.get told n) ty) (has_entry_never facts told q.context) t) e
-
-  -- ---- a tree that mentions nothing missing
-
-  module _ (known : authorization.Known) (given : HasGiven facts q known) where
-    abbrev Mentioned : Tree → Type 0
-    Mentioned t = mentions_only (is_known q) true t ≡ true
-
-    abbrev AllMentioned : Trees → Type 0
-    AllMentioned ts = all_mention_only (is_known q) true ts ≡ true
-
-    abbrev means : Tree → Outcome
-    means t = meaning facts (request_at known slots) t
-
-    value_at : (t : Tree) (v : Value) → Mentioned t → settled_in facts (settled_of facts q slots told) t ≡ Is v → means t ≡ Gives v
-    value_at t v m h = is_value (means t) v (sym (mentioned_settles facts q slots told known given t m) ∙ h)
-
-    values_at : (ts : Trees) (vs : Values) → AllMentioned ts → all_settled_in facts (settled_of facts q slots told) ts ≡ AllAre vs → meanings facts (request_at known slots) ts ≡ GivesAll vs
-    values_at ts vs m h = are_values (meanings facts (request_at known slots) ts) vs (sym (all_mentioned_settle facts q slots told known given ts m) ∙ h)
-
-    not_open : (t : Tree) → Mentioned t → settled_in facts (settled_of facts q slots told) t ≢ Open
-    not_open t m h = never_open (means t) (sym (mentioned_settles facts q slots told known given t m) ∙ h)
-
-    of_two : (a b : Tree) → (mentions_only (is_known q) true a && mentions_only (is_known q) true b) ≡ true → Mentioned a × Mentioned b
-    of_two a b m = and_parts (mentions_only (is_known q) true a) (mentions_only (is_known q) true b) m
-
-    of_three : (a b c : Tree) → Mentioned (If a b c) → Mentioned a × Mentioned b × Mentioned c
-    of_three a b c m = let (x, yz) = and_parts (mentions_only (is_known q) true a) (mentions_only (is_known q) true b && mentions_only (is_known q) true c) m in let (y, z) = of_two b c yz in (x, y, z)
-
-    of_more : (t : Tree) (ts : Trees) → AllMentioned (a_tree t ts) → Mentioned t × AllMentioned ts
-    of_more t ts m = and_parts (mentions_only (is_known q) true t) (all_mention_only (is_known q) true ts) m
-
-    mutual
-      fails : {t : Tree} {k : Kind} → ErrsAs facts (settled_of facts q slots told) everywhere t k → Mentioned t → means t ≡ Fails k
-      fails (unbound {s = s} e) m = unbound_is (slots s) e
-      fails (and_left {l = l} {r = r} h) m = rw (fails h (of_two l r m).0) refl
-      fails (and_right {l = l} {r = r} e h) m = rw (value_at l _ (of_two l r m).0 e, fails h (of_two l r m).1) refl
-      fails (and_left_type {l = l} {r = r} {v = v} e n) m = rw (value_at l v (of_two l r m).0 e) (and_not v _ n)
-      fails (and_right_type {l = l} {r = r} {v = v} e f n) m = rw (value_at l _ (of_two l r m).0 e, value_at r v (of_two l r m).1 f) (boolean_not v n)
-      fails (or_left {l = l} {r = r} h) m = rw (fails h (of_two l r m).0) refl
-      fails (or_right {l = l} {r = r} e h) m = rw (value_at l _ (of_two l r m).0 e, fails h (of_two l r m).1) refl
-      fails (or_left_type {l = l} {r = r} {v = v} e n) m = rw (value_at l v (of_two l r m).0 e) (or_not v _ n)
-      fails (or_right_type {l = l} {r = r} {v = v} e f n) m = rw (value_at l _ (of_two l r m).0 e, value_at r v (of_two l r m).1 f) (boolean_not v n)
-      fails (if_test {t = t} {y = y} {n = n} h) m = rw (fails h (of_three t y n m).0) refl
-      fails (if_type {t = t} {y = y} {n = n} {v = v} e i) m = rw (value_at t v (of_three t y n m).0 e) (if_not v _ _ i)
-      fails (if_then {t = t} {y = y} {n = n} e h) m = rw (value_at t _ (of_three t y n m).0 e) (fails h (of_three t y n m).1)
-      fails (if_else {t = t} {y = y} {n = n} e h) m = rw (value_at t _ (of_three t y n m).0 e) (fails h (of_three t y n m).2)
-      fails (operands h) m = rw (first_fails h m) refl
-      fails (operator {ts = ts} {vs = vs} e f) m = rw (values_at ts vs m e) f
-      fails (no_entry {a = a} e) m = missing_fails facts told q.context a known.context e (variable_result facts q slots told known given Context (and_parts (is_known q Context) true m).0)
-
-      first_fails : {ts : Trees} {k : Kind} → FirstErrsAs facts (settled_of facts q slots told) everywhere ts k → AllMentioned ts → meanings facts (request_at known slots) ts ≡ OneFails k
-      first_fails (here {t = t} {ts = ts} h) m = rw (fails h (of_more t ts m).0) refl
-      first_fails (behind_value {t = t} {ts = ts} e h) m = rw (value_at t _ (of_more t ts m).0 e, first_fails h (of_more t ts m).1) refl
-      first_fails (behind_open {t = t} {ts = ts} e h) m = absurd (not_open t (of_more t ts m).0 e)
-      first_fails (behind_erring {t = t} {ts = ts} e f h) m = absurd (not_open t (of_more t ts m).0 e)
+      (has_kind facts (settled_of facts q slots told) everywhere (each_not facts q told fine) (λ n ty. name_not (finite.get told n) ty) (has_entry_never facts told q.context) t) e
 
 pub settling_is_one : SettlingIsOne
 settling_is_one = record {
   errs = λ facts q slots told t k h. question_errs facts q slots told (ErrsEverywhere facts q slots told) t k h;
   kind = λ facts q slots told fine t e. question_kind facts q slots told (ErrsEverywhere facts q slots told) fine t e;
-  meant = λ facts q slots told known given t m k h. fails facts q slots told (ErrsEverywhere facts q slots told) known given h m;
+  meant = λ facts q slots told known given t m k h.
+      kind_at facts (request_at known slots) (settled_of facts q slots told) (mentioned_alone (is_known q) true) (variable_result facts q slots told known given) (λ n ty k. absurd k) (λ s k. refl)
+      (ErrsEverywhere facts q slots told) (λ a m e. missing_fails facts told q.context a known.context e (variable_result facts q slots told known given Context m)) h (mentioned (is_known q) true t m);
 }

@@ -1,21 +1,23 @@
 -- What is settled and answered under a filling.
-use Rattle.std.proofs.Common.{◌≡◌, ◌≢◌, Option, refl, sym, ◌∙◌, true, ap}
-use Rattle.std.proofs.lemmas.Bool.{and_parts}
+use Rattle.std.proofs.Common.{◌≡◌, ◌≢◌, Option, refl, sym, ◌∙◌, ap}
 use Rattle.std.specs.FinMap as finite
 use Rattle.std.specs.Prelude.{codes}
 use Rattle.cedar_language.specs.Uid.{Text, Uid}
-use Rattle.cedar_language.specs.Tree.{Entity, ValueType, Variable, Principal, Action, Resource, Context, Tree, MakeSet, Call, Lit, Unknown, MakeRecord, Apply, Trees, no_trees, a_tree}
+use Rattle.cedar_language.specs.Tree.{Entity, ValueType, Variable, Principal, Action, Resource, Context, Tree, MakeRecord, Apply}
 use Rattle.cedar_language.specs.Value.{Value, Plain, Kind, Outcome}
 use Rattle.cedar_language.specs.Facts.{Facts}
-use Rattle.cedar_language.specs.Meaning.{Slots, meaning, meanings}
+use Rattle.cedar_language.specs.Meaning.{Slots, meaning}
 use Rattle.cedar_language.specs.Authorization as authorization
-use Rattle.cedar_partial_evaluation.specs.Settling.{Settling, Open, Errs, Is, kindless, Below, settled_in, apply_settled, all_settled_in}
+use Rattle.cedar_partial_evaluation.specs.Settling.{Settling, Open, Errs, Is, kindless, Below, settled_in}
+use Rattle.cedar_partial_evaluation.specs.Unknowns.{of_unknowns}
 use Rattle.cedar_partial_evaluation.specs.MadeAgain.{HoldsMade}
 use Rattle.cedar_partial_evaluation.specs.Partial.{Failed, partial_in}
 use Rattle.cedar_partial_evaluation.specs.Fair.{read}
-use Rattle.cedar_partial_evaluation.specs.Question.{Part, Given, Missing, Entries, NoContext, WithEntries, Question, Told, name_settled, part_settled, context_settled, variable_settled, settled_of, held_of, Extends, AreMadeTold, is_restricted, are_restricted, settled_names}
-use Rattle.cedar_partial_evaluation.specs.Filling.{IsGiven, GivesEach, FillsPart, FillsContext, IsFilling, name_outcome, request_filled, filled, ErrsEverywhere, AnswersAreFair, AnswersArePrompt, FilledIsMeant, GivesEachOf, names_told}
-use Rattle.cedar_partial_evaluation.proofs.Known.{settled_at, never_open, kindless_all, apply_is, more_is}
+use Rattle.cedar_partial_evaluation.specs.Question.{Part, Given, Missing, Entries, NoContext, WithEntries, Question, Told, name_settled, part_settled, context_settled, variable_settled, settled_of, held_of, Extends, AreMadeTold, settled_names}
+use Rattle.cedar_partial_evaluation.specs.Filling.{IsGiven, GivesEach, FillsPart, FillsContext, IsFilling, name_outcome, request_filled, filled, ErrsEverywhere, AnswersAreFair, AnswersArePrompt, FilledIsMeant, names_told}
+use Rattle.cedar_partial_evaluation.proofs.Passing.{of_data, data_passes}
+use Rattle.cedar_partial_evaluation.proofs.Known.{settled_at}
+use Rattle.cedar_partial_evaluation.proofs.Sound.{never_open}
 use Rattle.cedar_partial_evaluation.proofs.Seam.{residuals_settle}
 use Rattle.cedar_partial_evaluation.proofs.Prompt.{prompt}
 use Rattle.cedar_partial_evaluation.proofs.Question.{weak_carries, held_made, question_shows}
@@ -29,26 +31,11 @@ part_filled (Missing ty) o w (e, fit) = rw (e, fit) refl
 name_filled : (filling : Told) (n : Text) (ty : Option ValueType) → IsGiven filling n ty → name_settled (finite.get filling n) ty ≡ kindless (name_outcome (finite.get filling n) ty)
 name_filled filling n ty (v, e, fit) = rw (e, fit) refl
 
--- a context that is data settles to what it means
-module _ (facts : Facts) (filling : Told) where
-  mutual
-    data_settles : (t : Tree) → is_restricted t ≡ true → GivesEach filling t → settled_in facts (settled_names filling) t ≡ kindless (meaning facts (names_told filling) t)
-    data_settles (Lit l) h given = refl
-    data_settles (Unknown n ty) h given = name_filled filling n ty given
-    data_settles (Apply MakeSet ts) h given = ap (apply_settled facts MakeSet) (all_data_settle ts h given) ∙ apply_is facts MakeSet (meanings facts (names_told filling) ts)
-    data_settles (Apply (MakeRecord ks) ts) h given = ap (apply_settled facts (MakeRecord ks)) (all_data_settle ts h given) ∙ apply_is facts (MakeRecord ks) (meanings facts (names_told filling) ts)
-    data_settles (Apply (Call f) ts) h given = ap (apply_settled facts (Call f)) (all_data_settle ts h given) ∙ apply_is facts (Call f) (meanings facts (names_told filling) ts)
-    data_settles _ h given = cc
-
-    all_data_settle : (ts : Trees) → are_restricted ts ≡ true → GivesEachOf filling ts → all_settled_in facts (settled_names filling) ts ≡ kindless_all (meanings facts (names_told filling) ts)
-    all_data_settle no_trees h given = refl
-    all_data_settle (a_tree t ts) h (here, more) =
-        let (ht, hts) = and_parts (is_restricted t) (are_restricted ts) h in
-        rw (data_settles t ht here, all_data_settle ts hts more) (more_is (meaning facts (names_told filling) t) (meanings facts (names_told filling) ts))
-
 pub context_filled : (facts : Facts) (c : Entries) (filling : Told) (w : Value) → FillsContext facts c filling w → context_settled facts filling c ≡ Is w
 context_filled facts NoContext filling w (e, fit) = rw e refl
-context_filled facts (WithEntries ks ts) filling w (restricted, given, e) = data_settles facts filling (Apply (MakeRecord ks) ts) restricted given ∙ ap kindless e
+context_filled facts (WithEntries ks ts) filling w (restricted, given, e) =
+    settled_at facts (names_told filling) (settled_names filling) (of_data (IsGiven filling)) (λ v h. absurd h) (name_filled filling) (λ s h. absurd h) (Apply (MakeRecord ks) ts)
+    (data_passes (IsGiven filling) (Apply (MakeRecord ks) ts) restricted given) ∙ ap kindless e
 
 -- ---- where something is closed, no less is the same
 
@@ -66,8 +53,8 @@ module _ (facts : Facts) (q : Question) (filling : Told) (known : authorization.
 
   pub means_filled : (slots : Slots) (t : Tree) → GivesEach filling t → settled_in facts (filled facts q slots filling) t ≡ kindless (meaning facts (request_filled known slots filling) t)
   means_filled slots t given =
-      settled_at facts (request_filled known slots filling) (filled facts q slots filling) (IsGiven filling)
-      (variable_filled slots) (name_filled filling) (λ s. refl) (λ a. refl) (λ a. refl) t given
+      settled_at facts (request_filled known slots filling) (filled facts q slots filling) (of_unknowns (IsGiven filling))
+      (λ v h. variable_filled slots v) (name_filled filling) (λ s h. refl) t given
 
   pub context_not : context_settled facts filling q.context ≢ Errs
   context_not h = let e : ◌≡◌ {A = Settling} Errs (Is known.context) = sym h ∙ context_filled facts q.context filling known.context fills.context in cc

@@ -1,23 +1,22 @@
-mod Known
-mod MadeAgain
-mod Sound
+pub mod Passing
+pub mod Known
+pub mod MadeAgain
+pub mod Sound
+mod Typed
 mod Prompt
-mod Carried
+pub mod Carried
 mod Seam
-mod Question
+pub mod Question
 mod Filling
 mod Telling
 mod Early
 mod EarlyRows
-mod Mentions
 mod Linking
-mod Unbound
 mod UnboundSeam
 mod Reauthorizing
-mod Leaves
+pub mod Leaves
 mod Errors
 mod ReadUnknowns
-mod LinkingEarly
 pub mod Alike
 mod DataErrors
 mod Waiting

@@ -1,12 +1,12 @@
 -- Answers that are values are made again by their trees.
 use Rattle.std.proofs.Common.{◌≡◌, ℕ, Bool, true, false, cond, Option, Some, None, List, [], ◌∷◌, refl, ap}
 use Rattle.cedar_language.specs.Uid.{Text, Name, Uid}
-use Rattle.cedar_language.specs.Tree.{Literal, Boolean, Long, String, Entity, Variable, Principal, Action, Resource, Context, SlotId, Operator, Not, Neg, IsEmpty, Equal, Less, LessEq, Add, Sub, Mul, In, Contains, ContainsAll, ContainsAny, GetTag, HasTag, GetAttr, HasAttr, HasPath, Like, MakeSet, MakeRecord, Call, Tree, Lit, Var, Slot, Unknown, If, And, Or, Apply, Trees, no_trees, a_tree, EntityType}
+use Rattle.cedar_language.specs.Tree.{Boolean, Long, String, Entity, Operator, Not, Neg, IsEmpty, Equal, Less, LessEq, Add, Sub, Mul, In, Contains, ContainsAll, ContainsAny, GetTag, HasTag, GetAttr, HasAttr, HasPath, Like, MakeSet, MakeRecord, Call, Tree, Lit, Var, Slot, Unknown, If, And, Or, Apply, Trees, no_trees, a_tree, EntityType}
 use Rattle.cedar_language.specs.Tree as tree
 use Rattle.cedar_language.specs.Value.{Value, Plain, SetOf, RecordOf, ExtensionOf, Values, no_values, a_value, Kind, TypeError, Outcome, Gives, Fails}
 use Rattle.cedar_language.specs.Order.{same_text, rising, put, placed, value_cmp}
 use Rattle.cedar_language.specs.Facts.{Held, Function, Facts}
-use Rattle.cedar_language.specs.Operators.{found, applied, truth, or_fails}
+use Rattle.cedar_language.specs.Operators.{found, applied, or_fails}
 use Rattle.cedar_partial_evaluation.specs.MadeAgain.{tree_of, trees_of, long_values, IsMadeAgain, AreMadeAgain, HoldsMade}
 use Rattle.cedar_language.specs.Constructing.{longs_of}
 use Rattle.cedar_partial_evaluation.specs.Partial.{Answer, Evaluated, ResidualTree, Failed, Answers, AllEvaluated, SomeResiduals, SomeFailed, answer_of, last_answer, and_answer, or_answer, if_answer, and_next, are_projectable, LeafAnswers, built_answer, projected_in, all_projected_in, found_tree, entry_answer, attribute_answer, has_entry_answer, has_answer, is_answer, stated_type, types_differ, equal_answer, residual_answer, apply_answer, partial_in, all_partial_in}

@@ -1,5 +1,5 @@
 -- Every answer is a result to which its tree settles, where there is one.
-use Rattle.std.proofs.Common.{◌≡◌, ◌≢◌, Bool, true, false, not, cond, Option, Some, None, [], ◌∷◌, refl}
+use Rattle.std.proofs.Common.{◌≡◌, ◌≢◌, true, false, not, Option, Some, None, refl}
 use Rattle.cedar_language.specs.Uid.{Text, Name}
 use Rattle.cedar_language.specs.Tree.{Boolean, Entity, Context, SlotId, Operator, Equal, GetAttr, HasAttr, Tree, Lit, Var, Slot, Unknown, If, And, Or, Apply, Trees, no_trees, a_tree, EntityType}
 use Rattle.cedar_language.specs.Tree as tree
@@ -7,11 +7,12 @@ use Rattle.cedar_language.specs.Value.{Plain, Values, no_values, Kind, TypeError
 use Rattle.cedar_language.specs.Order.{same_name}
 use Rattle.cedar_language.specs.Facts.{Facts}
 use Rattle.cedar_language.specs.Operators.{applied}
-use Rattle.cedar_partial_evaluation.specs.Settling.{Settling, Open, Errs, Is, Settlings, SomeOpen, SomeErrs, AllAre, kindless, Below, boolean, and_settled, or_settled, if_settled, and_more, apply_settled, LeafSettlings, or_entry, stated_in, type_of_entity, type_known, equal_by_types, or_type, settled_in, all_settled_in, types_in}
+use Rattle.cedar_partial_evaluation.specs.Settling.{Settling, Open, Errs, Is, Settlings, SomeOpen, SomeErrs, AllAre, kindless, Below, boolean, and_settled, or_settled, if_settled, and_more, apply_settled, LeafSettlings, or_entry, stated_in, type_of_entity, type_known, settled_in, all_settled_in}
 use Rattle.cedar_partial_evaluation.specs.MadeAgain.{HoldsMade}
-use Rattle.cedar_partial_evaluation.specs.Partial.{Answer, Evaluated, ResidualTree, Failed, Answers, AllEvaluated, SomeFailed, answer_of, last_answer, and_answer, or_answer, if_answer, and_next, LeafAnswers, types_differ, apply_answer, partial_in, all_partial_in}
+use Rattle.cedar_partial_evaluation.specs.Partial.{Answer, Evaluated, ResidualTree, Failed, Answers, AllEvaluated, SomeFailed, answer_of, last_answer, and_answer, or_answer, if_answer, and_next, LeafAnswers, apply_answer, partial_in, all_partial_in}
 use Rattle.cedar_partial_evaluation.specs.Fair.{IsStated, AreMadeLeaves}
 use Rattle.cedar_partial_evaluation.specs.Prompt.{ErrsAs, unbound, and_left, and_right, and_left_type, and_right_type, or_left, or_right, or_left_type, or_right_type, if_test, if_type, if_then, if_else, operands, operator, no_entry, FirstErrsAs, here, behind_value, behind_open, behind_erring, without_kind, Meets, Shows, IsPrompt, IsRefused}
+use Rattle.cedar_partial_evaluation.proofs.Typed.{leaf_stated, ShowTypes, types_fit}
 use Rattle.cedar_partial_evaluation.proofs.Sound.{other_type}
 
 -- a list of operands met by a list of answers
@@ -40,10 +41,6 @@ shown_type (Failed k) = None
 
 stated_shown : (around : LeafSettlings) (p : Answer) (u : Name) → IsStated around p u → shown_type p ≡ Some u
 stated_shown around p u s = rw (s.is) refl
-
-untold_name : (b : Bool) (ty u : Name) → cond b (Some ty) None ≡ Some u → (b ≡ true) × (ty ≡ u)
-untold_name true ty u h = (refl, cc)
-untold_name false ty u h = cc
 
 module _ (facts : Facts) (good : HoldsMade facts) (around : LeafSettlings) (holds : LeafAnswers) (shows : Shows facts around holds) (leaves : AreMadeLeaves facts holds)
     (Everywhere : Tree → Type 0) (everywhere : (t : Tree) (k : Kind) → partial_in facts holds t ≡ Failed k → Everywhere t) where
@@ -141,16 +138,9 @@ module _ (facts : Facts) (good : HoldsMade facts) (around : LeafSettlings) (hold
 
   -- ---- what types settle is answered
 
-  leaf_shown : (t : Tree) (u : Name) → stated_in around t ≡ Some u → shown_type (partial_in facts holds t) ≡ Some u
-  leaf_shown (Var v) u h = stated_shown around (holds.variable v) u (shows.variable_type v u h)
-  leaf_shown (Unknown n (Some (EntityType ty))) u h =
-      let (b, e) = untold_name (around.untold n) ty u h in
-      rw (← e) (stated_shown around (holds.unknown n (Some (EntityType ty))) ty (shows.untold n ty b))
-  leaf_shown t u h = cc
-
   type_shown : (errs_as : Kind → Type 0) (t : Tree) (u : Name) (x : Settling) → Meets errs_as x (partial_in facts holds t) → type_known x (stated_in around t) ≡ Some u →
       shown_type (partial_in facts holds t) ≡ Some u
-  type_shown errs_as t u Open m h = leaf_shown t u h
+  type_shown errs_as t u Open m h = stated_shown around (partial_in facts holds t) u (leaf_stated around around holds shows.variable_type shows.untold facts t u h)
   type_shown errs_as t u Errs m h = cc
   type_shown errs_as t u (Is v) m h = rw m h
 
@@ -180,45 +170,6 @@ module _ (facts : Facts) (good : HoldsMade facts) (around : LeafSettlings) (hold
       rw (g, i) (rw d refl)
   equal_shown u w p q h k d = cc
 
-  is_meets : (ty : Name) (s : Tree) (o : Option Name) (x : Settling) → ((u : Name) → o ≡ Some u → shown_type (partial_in facts holds s) ≡ Some u) →
-      Meets (Kinds (Apply (tree.Is ty) (a_tree s no_trees))) x (apply_answer facts holds (tree.Is ty) (all_partial_in facts holds (a_tree s no_trees))) →
-      Meets (Kinds (Apply (tree.Is ty) (a_tree s no_trees))) (or_type (tree.Is ty) (o ∷ []) x) (apply_answer facts holds (tree.Is ty) (all_partial_in facts holds (a_tree s no_trees)))
-  is_meets ty s (Some u) Open f m = is_shown ty u (partial_in facts holds s) (f u refl)
-  is_meets ty s None Open f m = tt
-  is_meets ty s o Errs f m = m
-  is_meets ty s o (Is v) f m = m
-
-  differing_meets : (errs_as : Kind → Type 0) (s t : Tree) (b : Bool) (o p : Option Name) → types_differ o p ≡ b →
-      ((u : Name) → o ≡ Some u → shown_type (partial_in facts holds s) ≡ Some u) →
-      ((u : Name) → p ≡ Some u → shown_type (partial_in facts holds t) ≡ Some u) →
-      Meets errs_as (equal_by_types b) (apply_answer facts holds Equal (all_partial_in facts holds (a_tree s (a_tree t no_trees))))
-  differing_meets errs_as s t true (Some u) (Some w) e f g = equal_shown u w (partial_in facts holds s) (partial_in facts holds t) (f u refl) (g w refl) e
-  differing_meets errs_as s t true (Some u) None e f g = cc
-  differing_meets errs_as s t true None p e f g = cc
-  differing_meets errs_as s t false o p e f g = tt
-
-  equal_meets : (s t : Tree) (o p : Option Name) (x : Settling) →
-      ((u : Name) → o ≡ Some u → shown_type (partial_in facts holds s) ≡ Some u) →
-      ((u : Name) → p ≡ Some u → shown_type (partial_in facts holds t) ≡ Some u) →
-      Meets (Kinds (Apply Equal (a_tree s (a_tree t no_trees)))) x (apply_answer facts holds Equal (all_partial_in facts holds (a_tree s (a_tree t no_trees)))) →
-      Meets (Kinds (Apply Equal (a_tree s (a_tree t no_trees)))) (or_type Equal (o ∷ p ∷ []) x) (apply_answer facts holds Equal (all_partial_in facts holds (a_tree s (a_tree t no_trees))))
-  equal_meets s t o p Open f g m = differing_meets (Kinds (Apply Equal (a_tree s (a_tree t no_trees)))) s t (types_differ o p) o p refl f g
-  equal_meets s t o p Errs f g m = m
-  equal_meets s t o p (Is v) f g m = m
-
-  -- of each operand the type that is known is shown by its answer
-  abbrev TypesShow : Trees → Type 0
-  TypesShow no_trees = Unit {0}
-  TypesShow (a_tree t ts) =
-      ((u : Name) → type_known (settled_in facts around t) (stated_in around t) ≡ Some u → shown_type (partial_in facts holds t) ≡ Some u) × TypesShow ts
-
-  types_meet : (op : Operator) (ts : Trees) (x : Settling) → TypesShow ts → Meets (Kinds (Apply op ts)) x (apply_answer facts holds op (all_partial_in facts holds ts)) →
-      Meets (Kinds (Apply op ts)) (or_type op (types_in facts around ts) x) (apply_answer facts holds op (all_partial_in facts holds ts))
-  types_meet (tree.Is ty) (a_tree s no_trees) x f m = is_meets ty s (type_known (settled_in facts around s) (stated_in around s)) x f.0 m
-  types_meet Equal (a_tree s (a_tree t no_trees)) x f m =
-      equal_meets s t (type_known (settled_in facts around s) (stated_in around s)) (type_known (settled_in facts around t) (stated_in around t)) x f.0 f.1.0 m
-  types_meet op ts x f m = m
-
   apply_meets : (op : Operator) (ts : Trees) (xs : Settlings) (ps : Answers) → all_settled_in facts around ts ≡ xs →
       MeetsAll (FirstKinds ts) xs ps → Meets (Kinds (Apply op ts)) (apply_settled facts op xs) (apply_answer facts holds op ps)
   apply_meets op ts SomeOpen ps h m = tt
@@ -241,7 +192,9 @@ module _ (facts : Facts) (good : HoldsMade facts) (around : LeafSettlings) (hold
         if_meets t y n (settled_in facts around t) (settled_in facts around y) (settled_in facts around n)
         (partial_in facts holds t) (partial_in facts holds y) (partial_in facts holds n) refl (prompt t) (prompt y) (prompt n)
     prompt (Apply op ts) =
-        types_meet op ts (or_entry around op ts (apply_settled facts op (all_settled_in facts around ts))) (all_types_show ts)
+        types_fit facts around holds shown_type (λ t x p. Meets (Kinds t) x p) (λ ty u s h. is_shown ty u (partial_in facts holds s) h)
+        (λ u w s t h k d. equal_shown u w (partial_in facts holds s) (partial_in facts holds t) h k d)
+        op ts (or_entry around op ts (apply_settled facts op (all_settled_in facts around ts))) (all_types_show ts)
         (entry_meets op ts (apply_settled facts op (all_settled_in facts around ts))
         (apply_meets op ts (all_settled_in facts around ts) (all_partial_in facts holds ts) refl (all_prompt ts)))
 
@@ -251,7 +204,7 @@ module _ (facts : Facts) (good : HoldsMade facts) (around : LeafSettlings) (hold
         more_meets t ts (settled_in facts around t) (all_settled_in facts around ts) (partial_in facts holds t) (all_partial_in facts holds ts)
         refl refl (prompt t) (all_prompt ts)
 
-    all_types_show : (ts : Trees) → TypesShow ts
+    all_types_show : (ts : Trees) → ShowTypes facts around holds shown_type ts
     all_types_show no_trees = tt
     all_types_show (a_tree t ts) = ((λ u h. type_shown (Kinds t) t u (settled_in facts around t) (prompt t) h), all_types_show ts)
 

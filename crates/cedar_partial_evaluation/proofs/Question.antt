@@ -27,7 +27,7 @@ use Rattle.cedar_partial_evaluation.proofs.MadeAgain.{made, value_again}
 use Rattle.cedar_partial_evaluation.proofs.Alike.{projected_is}
 use Rattle.cedar_partial_evaluation.proofs.Sound.{tree_of_is, type_meant}
 use Rattle.cedar_partial_evaluation.proofs.Carried.{BelowAll, below_refl, below_is, below_trans, and_mono, or_mono, if_mono, more_mono, apply_mono, raised_in}
-use Rattle.cedar_partial_evaluation.proofs.Seam.{residuals_settle, plain_carried}
+use Rattle.cedar_partial_evaluation.proofs.Seam.{residuals_settle, plain_carried, entry_passes}
 use Rattle.cedar_partial_evaluation.proofs.Prompt.{is_prompt}
 
 -- where less is known of the leaves, less is settled
@@ -102,6 +102,25 @@ module _ (facts : Facts) (a b : LeafSettlings)
   read_mono (ResidualTree r) = settled_mono r
   read_mono (Failed k) = refl
 
+pub meets_below : (errs_as : Kind → Type 0) (x : Settling) (p : Answer) → Meets errs_as x p → Below x (without_kind p)
+meets_below errs_as Open p m = tt
+meets_below errs_as Errs p (k, e, is) = rw e refl
+meets_below errs_as (Is v) p m = rw m refl
+
+pub meets_read : (facts : Facts) (around : LeafSettlings) (errs_as : Kind → Type 0) (x : Settling) (p : Answer) → Meets errs_as x p → Below x (read facts around p)
+meets_read facts around errs_as Open p m = tt
+meets_read facts around errs_as Errs p (k, e, is) = rw e refl
+meets_read facts around errs_as (Is v) p m = rw m refl
+
+-- met without an error
+abbrev MeetsFine : Settling → Answer → Type 0
+MeetsFine x p = Meets (λ k. ⊥) x p
+
+never_met : (x : Settling) (p : Answer) → MeetsFine x p → x ≢ Errs
+never_met Open p m h = cc
+never_met Errs p (k, e, none) h = none
+never_met (Is v) p m h = cc
+
 -- ---- a value, whether it fits or not
 
 value_carries : (facts : Facts) (around : LeafSettlings) (b : Bool) (v : Value) → Below (value_settled b v) (read facts around (value_held b v))
@@ -126,13 +145,19 @@ pub name_carries : (facts : Facts) (around : LeafSettlings) (n : Text) (ty : Opt
 name_carries facts around n ty (Some v) p f e = let g : p ≡ Some v = f v refl in rw g (value_carries facts around (fits ty v) v)
 name_carries facts around n ty None p f e = below_is _ _ (sym e)
 
-name_not : (o : Option Value) (ty : Option ValueType) → name_settled o ty ≢ Errs
+pub name_not : (o : Option Value) (ty : Option ValueType) → name_settled o ty ≢ Errs
 name_not (Some v) ty = value_not (fits ty v) v
 name_not None ty = λ h. cc
 
 part_not : (p : Part) (o : Option Value) → part_settled p o ≢ Errs
 part_not (Given u) o h = cc
 part_not (Missing ty) o h = name_not o (entity_type ty) h
+
+pub each_not : (facts : Facts) (q : Question) (later : Told) → context_settled facts later q.context ≢ Errs → (v : Variable) → variable_settled facts q later v ≢ Errs
+each_not facts q later ok Principal = part_not q.principal (finite.get later (codes "principal"))
+each_not facts q later ok Action = part_not q.action (finite.get later (codes "action"))
+each_not facts q later ok Resource = part_not q.resource (finite.get later (codes "resource"))
+each_not facts q later ok Context = ok
 
 -- what is settled at a stated type of entities is an entity of it
 entity_typed : (ty : Name) (u : Uid) (b : Bool) (v : Value) → same_name u.type_name ty ≡ b → value_settled b (Plain (Entity u)) ≡ Is v → IsOfType ty v
@@ -161,7 +186,7 @@ slot_made : (facts : Facts) (o : Option Uid) → IsMadeAnswer facts (answer_of (
 slot_made facts (Some u) = tt
 slot_made facts None = tt
 
-slot_below : (facts : Facts) (around : LeafSettlings) (o : Option Uid) → Below (kindless (slot_outcome o)) (read facts around (answer_of (slot_outcome o)))
+pub slot_below : (facts : Facts) (around : LeafSettlings) (o : Option Uid) → Below (kindless (slot_outcome o)) (read facts around (answer_of (slot_outcome o)))
 slot_below facts around (Some u) = refl
 slot_below facts around None = refl
 
@@ -241,16 +266,10 @@ module _ (facts : Facts) (good : HoldsMade facts) (q : Question) (slots : Slots)
   each_carries around e Resource = part_carries around e (codes "resource") q.resource
   each_carries around e Context = variable_carries around e q.context
 
-  each_not : context_settled facts later q.context ≢ Errs → (v : Variable) → variable_settled facts q later v ≢ Errs
-  each_not ok Principal = part_not q.principal (finite.get later (codes "principal"))
-  each_not ok Action = part_not q.action (finite.get later (codes "action"))
-  each_not ok Resource = part_not q.resource (finite.get later (codes "resource"))
-  each_not ok Context = ok
-
   pub weak_carries : context_settled facts later q.context ≢ Errs → Carries facts weak (held_of facts q slots told)
   weak_carries ok = record {
     variable = each_carries weak (λ n ty. refl);
-    never_errs = each_not ok;
+    never_errs = each_not facts q later ok;
     unknown = λ n ty. name_carries facts weak n ty (finite.get told n) (finite.get later n) (extends n) refl;
     name_never_errs = λ n ty. name_not (finite.get later n) ty;
     typed = λ n ty v e. name_typed ty (finite.get later n) v e;
@@ -482,15 +501,7 @@ module _ (facts : Facts) (good : HoldsMade facts) (q : Question) (slots : Slots)
     plain_of (Failed k) t h = absurd h
 
     found_simple : (ks : List Text) (ts : Trees) (t : Tree) → are_simple facts later ts ≡ true → found_tree ks ts a ≡ Some t → is_simple facts later t ≡ true
-    found_simple [] ts t h e = cc
-    found_simple (k ∷ ks) no_trees t h e = cc
-    found_simple (k ∷ ks) (a_tree s ts) t h e =
-        let (hs, hts) = and_parts (is_simple facts later s) (are_simple facts later ts) h in
-        simple_step (same_text k a) s t (found_tree ks ts a) hs (found_simple ks ts t hts) e
-      where
-        simple_step : (b : Bool) (s t : Tree) (o : Option Tree) → is_simple facts later s ≡ true → (o ≡ Some t → is_simple facts later t ≡ true) → cond b (Some s) o ≡ Some t → is_simple facts later t ≡ true
-        simple_step true s t o h f e = let g : s ≡ t = cc in rw g at h
-        simple_step false s t o h f e = f e
+    found_simple ks ts t h e = entry_passes (is_simple facts later) (are_simple facts later) (λ s us i. and_parts (is_simple facts later s) (are_simple facts later us) i) ks ts a t h e
 
     -- a plain tree that is left is evaluated again to no less
     again : (t : Tree) → is_simple facts later t ≡ true →
@@ -523,14 +534,14 @@ module _ (facts : Facts) (good : HoldsMade facts) (q : Question) (slots : Slots)
 
     left_has : (ks : List Text) (ts rs : Trees) (b : Bool) (o : Option Tree) → all_partial_in facts (held_names told) ts ≡ SomeResiduals rs →
         are_simple facts later ts ≡ b → found_tree ks ts a ≡ o →
-        Below (has_settled b o)
-        (read facts (settled_of facts q slots later) (has_entry_answer a (Apply (MakeRecord ks) rs) (are_projectable rs) (found_tree ks rs a)))
+        MeetsFine (has_settled b o)
+        (has_entry_answer a (Apply (MakeRecord ks) rs) (are_projectable rs) (found_tree ks rs a))
     left_has ks ts rs true None h s e = rw (none_left ks ts rs h e, some_plain ts rs h s) refl
     left_has ks ts rs true (Some t) h s e = rw (some_left ks ts rs t h e, some_plain ts rs h s) refl
     left_has ks ts rs false o h s e = tt
 
     known_has : (ks : List Text) (ts : Trees) (vs : Values) (b : Bool) (o : Option Tree) → all_partial_in facts (held_names told) ts ≡ AllEvaluated vs → found_tree ks ts a ≡ o →
-        Below (has_settled b o) (read facts (settled_of facts q slots later) (answer_of (applied facts (HasAttr a) (a_value (RecordOf ks vs) no_values))))
+        MeetsFine (has_settled b o) (answer_of (applied facts (HasAttr a) (a_value (RecordOf ks vs) no_values)))
     known_has ks ts vs true None h e = rw (known_none ks ts vs a h e) refl
     known_has ks ts vs true (Some t) h e = let (v, f, known) = known_found ks ts vs a t h e in rw f refl
     known_has ks ts vs false o h e = tt
@@ -544,9 +555,9 @@ module _ (facts : Facts) (good : HoldsMade facts) (q : Question) (slots : Slots)
     given_entry ks ts (SomeFailed k) h n = absurd n
 
     given_has : (ks : List Text) (ts : Trees) (ps : Answers) → all_partial_in facts (held_names told) ts ≡ ps → NoneRefused ps →
-        Below (has_settled (are_simple facts later ts) (found_tree ks ts a))
-        (read facts (settled_of facts q slots later) (apply_answer facts (held_of facts q slots told) (HasAttr a)
-        (and_next facts (apply_answer facts (held_names told) (MakeRecord ks) ps) (AllEvaluated no_values))))
+        MeetsFine (has_settled (are_simple facts later ts) (found_tree ks ts a))
+        (apply_answer facts (held_of facts q slots told) (HasAttr a)
+        (and_next facts (apply_answer facts (held_names told) (MakeRecord ks) ps) (AllEvaluated no_values)))
     given_has ks ts (AllEvaluated vs) h n = known_has ks ts vs (are_simple facts later ts) (found_tree ks ts a) h refl
     given_has ks ts (SomeResiduals rs) h n = left_has ks ts rs (are_simple facts later ts) (found_tree ks ts a) h refl refl
     given_has ks ts (SomeFailed k) h n = absurd n
@@ -564,8 +575,8 @@ module _ (facts : Facts) (good : HoldsMade facts) (q : Question) (slots : Slots)
         given_entry ks ts (all_partial_in facts (held_names told) ts) refl (none_refused ks (all_partial_in facts (held_names told) ts) ok.held)
 
     context_has : (context : Entries) → IsAccepted facts told context →
-        Below (has_in_context facts later context a)
-        (read facts (settled_of facts q slots later) (apply_answer facts (held_of facts q slots told) (HasAttr a) (and_next facts (context_held facts told context) (AllEvaluated no_values))))
+        MeetsFine (has_in_context facts later context a)
+        (apply_answer facts (held_of facts q slots told) (HasAttr a) (and_next facts (context_held facts told context) (AllEvaluated no_values)))
     context_has NoContext ok = tt
     context_has (WithEntries ks ts) ok =
         given_has ks ts (all_partial_in facts (held_names told) ts) refl (none_refused ks (all_partial_in facts (held_names told) ts) ok.held)
@@ -573,21 +584,16 @@ module _ (facts : Facts) (good : HoldsMade facts) (q : Question) (slots : Slots)
 pub telling_carries : TellingCarries
 telling_carries facts good q slots told later extends are_made now then = record {
   variable = each_carries facts good q slots told later extends are_made (settled_of facts q slots later) (λ n ty. refl);
-  never_errs = each_not facts good q slots told later extends are_made then.settled;
+  never_errs = each_not facts q later then.settled;
   unknown = λ n ty. name_carries facts (settled_of facts q slots later) n ty (finite.get told n) (finite.get later n) (extends n) refl;
   name_never_errs = λ n ty. name_not (finite.get later n) ty;
   typed = λ n ty v e. name_typed ty (finite.get later n) v e;
   slot = λ s. slot_below facts _ (slots s);
   in_context = λ a. context_entry facts good q slots told later extends are_made then a q.context now;
-  has_in_context = λ a. context_has facts good q slots told later extends are_made then a q.context now;
+  has_in_context = λ a. meets_read facts _ _ _ _ (context_has facts good q slots told later extends are_made then a q.context now);
   variable_type = variable_stated facts good q slots told later extends are_made;
   untold = unknown_stated facts good q slots told later extends are_made;
 }
-
-pub meets_below : (errs_as : Kind → Type 0) (x : Settling) (p : Answer) → Meets errs_as x p → Below x (without_kind p)
-meets_below errs_as Open p m = tt
-meets_below errs_as Errs p (k, e, is) = rw e refl
-meets_below errs_as (Is v) p m = rw m refl
 
 name_shows : (o : Option Value) (n : Text) (ty : Option ValueType) → Below (name_settled o ty) (without_kind (name_held o n ty))
 name_shows (Some v) n ty = value_shows (fits ty v) v
@@ -687,49 +693,17 @@ module _ (facts : Facts) (good : HoldsMade facts) (q : Question) (slots : Slots)
         given_shows ks ts (all_partial_in facts (held_names told) ts) refl
         (none_refused facts good q slots told told as_told are_made ok a ks (all_partial_in facts (held_names told) ts) fine.held)
 
-    has_not : (b : Bool) (o : Option Tree) → has_settled b o ≢ Errs
-    has_not true (Some t) h = cc
-    has_not true None h = cc
-    has_not false o h = cc
-
-    has_known : (ks : List Text) (ts : Trees) (vs : Values) (b : Bool) (o : Option Tree) → all_partial_in facts (held_names told) ts ≡ AllEvaluated vs → found_tree ks ts a ≡ o →
-        Below (has_settled b o) (without_kind (answer_of (applied facts (HasAttr a) (a_value (RecordOf ks vs) no_values))))
-    has_known ks ts vs true None h e = rw (known_none facts good q slots told told as_told are_made ks ts vs a h e) refl
-    has_known ks ts vs true (Some t) h e = let (v, f, known) = known_found facts good q slots told told as_told are_made ks ts vs a t h e in rw f refl
-    has_known ks ts vs false o h e = tt
-
-    has_left : (ks : List Text) (ts rs : Trees) (b : Bool) (o : Option Tree) → all_partial_in facts (held_names told) ts ≡ SomeResiduals rs →
-        are_simple facts told ts ≡ b → found_tree ks ts a ≡ o →
-        Below (has_settled b o) (without_kind (has_entry_answer a (Apply (MakeRecord ks) rs) (are_projectable rs) (found_tree ks rs a)))
-    has_left ks ts rs true None h s e = rw (none_left facts good q slots told told as_told are_made ok a ks ts rs h e, some_plain facts good q slots told told as_told are_made ok a ts rs h s) refl
-    has_left ks ts rs true (Some t) h s e = rw (some_left facts good q slots told told as_told are_made ok a ks ts rs t h e, some_plain facts good q slots told told as_told are_made ok a ts rs h s) refl
-    has_left ks ts rs false o h s e = tt
-
-    has_given : (ks : List Text) (ts : Trees) (ps : Answers) → all_partial_in facts (held_names told) ts ≡ ps → NoneRefused facts good q slots told told as_told are_made ps →
-        Below (has_settled (are_simple facts told ts) (found_tree ks ts a))
-        (without_kind (apply_answer facts (held_of facts q slots told) (HasAttr a) (and_next facts (apply_answer facts (held_names told) (MakeRecord ks) ps) (AllEvaluated no_values))))
-    has_given ks ts (AllEvaluated vs) h n = has_known ks ts vs (are_simple facts told ts) (found_tree ks ts a) h refl
-    has_given ks ts (SomeResiduals rs) h n = has_left ks ts rs (are_simple facts told ts) (found_tree ks ts a) h refl refl
-    has_given ks ts (SomeFailed k) h n = absurd n
-
-    has_shows : (context : Entries) → IsAccepted facts told context → (has_in_context facts told context a ≢ Errs) × Below (has_in_context facts told context a)
-        (without_kind (apply_answer facts (held_of facts q slots told) (HasAttr a) (and_next facts (context_held facts told context) (AllEvaluated no_values))))
-    has_shows NoContext fine = ((λ h. (let k : Open ≡ Errs = h in cc)), tt)
-    has_shows (WithEntries ks ts) fine = (
-      has_not (are_simple facts told ts) (found_tree ks ts a),
-      has_given ks ts (all_partial_in facts (held_names told) ts) refl
-          (none_refused facts good q slots told told as_told are_made ok a ks (all_partial_in facts (held_names told) ts) fine.held),
-    )
-
   pub question_shows : Shows facts (settled_of facts q slots told) (held_of facts q slots told)
   question_shows = record {
     variable = each_shows;
-    never_errs = each_not facts good q slots told told as_told are_made ok.settled;
+    never_errs = each_not facts q told ok.settled;
     unknown = λ n ty. name_shows (finite.get told n) n ty;
     name_never_errs = λ n ty. name_not (finite.get told n) ty;
     slot = λ s. slot_shows (slots s);
     in_context = λ a. entry_shows a q.context ok;
-    has_in_context = λ a. has_shows a q.context ok;
+    has_in_context = λ a.
+        let has = context_has facts good q slots told told as_told are_made ok a q.context ok in
+        (never_met _ _ has, meets_below _ _ _ has);
     variable_type = variable_stated facts good q slots told told as_told are_made;
     untold = unknown_stated facts good q slots told told as_told are_made;
   }

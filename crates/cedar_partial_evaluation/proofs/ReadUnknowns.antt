@@ -2,10 +2,11 @@
 use Rattle.std.proofs.Common.{◌≡◌, Bool, true, false, ◌||◌, refl, sym, ◌∙◌, ap}
 use Rattle.std.proofs.lemmas.Bool.{and_parts, or_parts}
 use Rattle.cedar_language.specs.Uid.{Name}
-use Rattle.cedar_language.specs.Tree.{Boolean, Long, String, Entity, Operator, MakeSet, MakeRecord, Call, Tree, Lit, Var, Slot, Unknown, If, And, Or, Apply, Trees, no_trees, a_tree}
+use Rattle.cedar_language.specs.Tree.{String, Operator, Call, Tree, Lit, Var, Slot, Unknown, If, And, Or, Apply, Trees, no_trees, a_tree}
 use Rattle.cedar_language.specs.Order.{same_name}
 use Rattle.cedar_language.specs.Restricted.{is_restricted, are_restricted}
 use Rattle.cedar_partial_evaluation.specs.ReadUnknowns.{unknown_function, unknown_or_call, read_call, read_unknowns, all_read, is_unknown_call, calls_unknown, some_calls_unknown, ReadsData, UnknownsAreRead}
+use Rattle.cedar_partial_evaluation.proofs.Passing.{data_in}
 
 -- ---- no call
 
@@ -44,10 +45,6 @@ read_again : (b : Bool) (f : Name) (t : Tree) (ts : Trees) → same_name f unkno
     read_unknowns (unknown_or_call b f t ts) ≡ unknown_or_call b f t ts
 read_again false f t ts e h i = ap (read_call (Call f)) (ap (λ u. a_tree u (all_read ts)) h ∙ ap (a_tree t) i) ∙ ap (λ b. unknown_or_call b f t ts) e
 read_again true f (Lit (String n)) no_trees e h i = refl
-read_again true f (Lit (String n)) (a_tree u us) e h i = ap (read_call (Call f)) (ap (λ ts. a_tree (Lit (String n)) ts) i) ∙ ap (λ b. unknown_or_call b f (Lit (String n)) (a_tree u us)) e
-read_again true f (Lit (Boolean b)) ts e h i = ap (read_call (Call f)) (ap (λ ts. a_tree (Lit (Boolean b)) ts) i) ∙ ap (λ x. unknown_or_call x f (Lit (Boolean b)) ts) e
-read_again true f (Lit (Long n)) ts e h i = ap (read_call (Call f)) (ap (λ ts. a_tree (Lit (Long n)) ts) i) ∙ ap (λ b. unknown_or_call b f (Lit (Long n)) ts) e
-read_again true f (Lit (Entity u)) ts e h i = ap (read_call (Call f)) (ap (λ ts. a_tree (Lit (Entity u)) ts) i) ∙ ap (λ b. unknown_or_call b f (Lit (Entity u)) ts) e
 read_again true f t ts e h i = ap (read_call (Call f)) (ap (λ u. a_tree u (all_read ts)) h ∙ ap (a_tree t) i) ∙ ap (λ b. unknown_or_call b f t ts) e
 
 abbrev first_tree : Tree → Trees → Tree
@@ -87,9 +84,7 @@ module _ (read : Tree → Tree) (read_all : Trees → Trees) (reads : ReadsData 
     alone : (t : Tree) → is_restricted t ≡ true → read t ≡ read_unknowns t
     alone (Lit l) h = reads.literal l
     alone (Unknown n ty) h = reads.unknown n ty
-    alone (Apply MakeSet ts) h = reads.applied MakeSet ts ∙ ap (read_call MakeSet) (all_alone ts h)
-    alone (Apply (MakeRecord ks) ts) h = reads.applied (MakeRecord ks) ts ∙ ap (read_call (MakeRecord ks)) (all_alone ts h)
-    alone (Apply (Call f) ts) h = reads.applied (Call f) ts ∙ ap (read_call (Call f)) (all_alone ts h)
+    alone (Apply op ts) h = reads.applied op ts ∙ ap (read_call op) (all_alone ts (data_in op ts h).0)
     alone _ h = cc
 
     all_alone : (ts : Trees) → are_restricted ts ≡ true → read_all ts ≡ all_read ts

@@ -2,8 +2,8 @@
 use Rattle.std.proofs.Common.{◌≡◌, Bool, true, false, ◌&&◌, not, ◌⊎◌, inl, inr, List, [], ◌∷◌, refl, sym, ◌∙◌, ap, subst}
 use Rattle.std.specs.Prelude.{map}
 use Rattle.std.proofs.lemmas.List.Elements.{All-head, All-tail}
-use Rattle.cedar_language.specs.Tree.{Boolean, Long, String, Entity, Tree}
-use Rattle.cedar_language.specs.Value.{Value, Plain, SetOf, RecordOf, ExtensionOf, Kind, Outcome, Gives, Fails}
+use Rattle.cedar_language.specs.Tree.{Boolean, Tree}
+use Rattle.cedar_language.specs.Value.{Value, Plain, Kind, Outcome, Gives, Fails}
 use Rattle.cedar_language.specs.Facts.{Facts}
 use Rattle.cedar_language.specs.Meaning.{meaning}
 use Rattle.cedar_language.specs.Answering.{Effect, Standing, Satisfied, Unsatisfied, Erring, Residual, Judged, is_permit, is_residual, some, ComesTo, StillErrs, Comes, Come, none_come, one_comes, Fills, Filled, nothing, a_policy}
@@ -19,7 +19,7 @@ use Rattle.cedar_partial_evaluation.specs.Question.{Question, Told, settled_of, 
 use Rattle.cedar_partial_evaluation.specs.Filling.{GivesEach, IsFilling, request_filled, filled}
 use Rattle.cedar_partial_evaluation.specs.Early.{judged_filled, standing_of_answer, judged_early, standing_settled, judged_settled, GivesPolicies}
 use Rattle.cedar_partial_evaluation.specs.Reauthorizing.{IsErring, condition_again, judged_again, ReauthorizingIsFair, ReauthorizingIsSharp, ErrorsAreNamed, ReauthorizingIsExact}
-use Rattle.cedar_partial_evaluation.proofs.Known.{never_open}
+use Rattle.cedar_partial_evaluation.proofs.Sound.{never_open}
 use Rattle.cedar_partial_evaluation.proofs.Seam.{residuals_settle}
 use Rattle.cedar_partial_evaluation.proofs.Question.{telling_carries, held_made}
 use Rattle.cedar_partial_evaluation.proofs.Filling.{below_closed, means_filled, answers_are_fair}
@@ -35,37 +35,20 @@ module _ (facts : Facts) (holds : LeafAnswers) where
 
   becomes_again : (around other : LeafSettlings) (p : Answer) (o : Outcome) → read facts around p ≡ kindless o → ((r : Tree) → p ≡ ResidualTree r → read facts other (partial_in facts holds r) ≡ kindless o) →
       ComesTo (standing_of_answer (later p)) (standing_of o) × StillErrs (standing_of_answer (later p)) (standing_of o)
-  becomes_again around other (Evaluated (Plain (Boolean true))) o h f = ((left_comes facts around (Evaluated (Plain (Boolean true))) o h).0, tt)
-  becomes_again around other (Evaluated (Plain (Boolean false))) o h f = ((left_comes facts around (Evaluated (Plain (Boolean false))) o h).0, tt)
-  becomes_again around other (Evaluated (Plain (Long n))) o h f = ((left_comes facts around (Evaluated (Plain (Long n))) o h).0, tt)
-  becomes_again around other (Evaluated (Plain (String s))) o h f = ((left_comes facts around (Evaluated (Plain (String s))) o h).0, tt)
-  becomes_again around other (Evaluated (Plain (Entity u))) o h f = ((left_comes facts around (Evaluated (Plain (Entity u))) o h).0, tt)
-  becomes_again around other (Evaluated (SetOf vs)) o h f = ((left_comes facts around (Evaluated (SetOf vs)) o h).0, tt)
-  becomes_again around other (Evaluated (RecordOf ks vs)) o h f = ((left_comes facts around (Evaluated (RecordOf ks vs)) o h).0, tt)
-  becomes_again around other (Evaluated (ExtensionOf x)) o h f = ((left_comes facts around (Evaluated (ExtensionOf x)) o h).0, tt)
-  becomes_again around other (Failed k) o h f = ((left_comes facts around (Failed k) o h).0, tt)
   becomes_again around other (ResidualTree r) o h f = left_comes facts other (partial_in facts holds r) o (f r refl)
+  becomes_again around other (Evaluated (Plain (Boolean true))) o h f = ((left_comes facts around (Evaluated (Plain (Boolean true))) o h).0, tt)
+  becomes_again around other p o h f = ((left_comes facts around p o h).0, tt)
 
   -- what is settled
   known_again : (w : Value) → ComesTo (standing_settled (Is w)) (standing_of_answer (later (Evaluated w)))
   known_again (Plain (Boolean true)) = refl
   known_again (Plain (Boolean false)) = tt
-  known_again (Plain (Long n)) = tt
-  known_again (Plain (String s)) = tt
-  known_again (Plain (Entity u)) = tt
-  known_again (SetOf vs) = tt
-  known_again (RecordOf ks vs) = tt
-  known_again (ExtensionOf x) = tt
+  known_again _ = tt
 
   same_standing : (w : Value) → standing_settled (Is w) ≡ standing_of_answer (Evaluated w)
   same_standing (Plain (Boolean true)) = refl
   same_standing (Plain (Boolean false)) = refl
-  same_standing (Plain (Long n)) = refl
-  same_standing (Plain (String s)) = refl
-  same_standing (Plain (Entity u)) = refl
-  same_standing (SetOf vs) = refl
-  same_standing (RecordOf ks vs) = refl
-  same_standing (ExtensionOf x) = refl
+  same_standing _ = refl
 
   comes_itself : (s : Standing) → ComesTo s s
   comes_itself Satisfied = refl
@@ -125,12 +108,7 @@ module _ (facts : Facts) (holds : LeafAnswers) where
       outcome_standing : (w : Value) → standing_settled (Is w) ≡ standing_of (Gives w)
       outcome_standing (Plain (Boolean true)) = refl
       outcome_standing (Plain (Boolean false)) = refl
-      outcome_standing (Plain (Long n)) = refl
-      outcome_standing (Plain (String s)) = refl
-      outcome_standing (Plain (Entity u)) = refl
-      outcome_standing (SetOf vs) = refl
-      outcome_standing (RecordOf ks vs) = refl
-      outcome_standing (ExtensionOf x) = refl
+      outcome_standing _ = refl
   seen_errs (Evaluated v) (Fails l) h e = cc
   seen_errs (ResidualTree r) o h e = absurd (never_open o (sym h))
   seen_errs (Failed l) o h e = (l, refl)
@@ -238,9 +216,6 @@ module _ (facts : Facts) (good : HoldsMade facts) (q : Question) (told filling :
       let here : (effect p.effect && is_residual (judged_again facts q told filling p).standing) ≡ false =
       not_open (effect p.effect) (judged_again facts q told filling p).standing (closed p (All-head (λ (r : Policy). GivesEach filling r.condition) p ps given)) in
       rw here (none_open effect ps (All-tail (λ (r : Policy). GivesEach filling r.condition) p ps given))
-
-  as_told : Extends filling filling
-  as_told n v e = e
 
 pub reauthorizing_is_exact : ReauthorizingIsExact
 reauthorizing_is_exact facts good q told filling known extends are_made then_made fills = record {

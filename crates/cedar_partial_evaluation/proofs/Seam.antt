@@ -15,19 +15,24 @@ use Rattle.cedar_partial_evaluation.specs.Fair.{IsOfType, read, read_all, AreMad
 use Rattle.cedar_partial_evaluation.specs.Seam.{Carries, ResidualsSettle}
 use Rattle.cedar_partial_evaluation.proofs.MadeAgain.{plain_made, all_plain_made}
 use Rattle.cedar_partial_evaluation.proofs.Sound.{found_is_at, not_found_is_at, kindless_answer, other_type}
-use Rattle.cedar_partial_evaluation.proofs.Carried.{BelowAll, below_refl, below_is, below_trans, apply_mono, raised_in, answer_type, is_settles, equal_settles, told_not, more_carries, carried}
+use Rattle.cedar_partial_evaluation.proofs.Typed.{told_not}
+use Rattle.cedar_partial_evaluation.proofs.Carried.{BelowAll, below_refl, below_is, below_trans, apply_mono, raised_in, answer_type, is_settles, equal_settles, more_carries, carried}
 
--- an entry of a plain record is plain
-pub entry_step : (b : Bool) (s t : Tree) (o : Option Tree) → is_projectable s ≡ true → (o ≡ Some t → is_projectable t ≡ true) → cond b (Some s) o ≡ Some t → is_projectable t ≡ true
-entry_step true s t o h f e = let q : s ≡ t = cc in rw q at h
-entry_step false s t o h f e = f e
+-- where each tree passes, an entry does
+module _ (one : Tree → Bool) (each : Trees → Bool) (of_two : (t : Tree) (ts : Trees) → each (a_tree t ts) ≡ true → (one t ≡ true) × (each ts ≡ true)) where
+  entry_step : (b : Bool) (s t : Tree) (o : Option Tree) → one s ≡ true → (o ≡ Some t → one t ≡ true) → cond b (Some s) o ≡ Some t → one t ≡ true
+  entry_step true s t o h f e = let q : s ≡ t = cc in subst (λ (u : Tree). one u ≡ true) q h
+  entry_step false s t o h f e = f e
+
+  pub entry_passes : (ks : List Text) (ts : Trees) (a : Text) (t : Tree) → each ts ≡ true → found_tree ks ts a ≡ Some t → one t ≡ true
+  entry_passes [] ts a t h e = cc
+  entry_passes (k ∷ ks) no_trees a t h e = cc
+  entry_passes (k ∷ ks) (a_tree s ts) a t h e =
+      let (hs, hts) = of_two s ts h in
+      entry_step (same_text k a) s t (found_tree ks ts a) hs (entry_passes ks ts a t hts) e
 
 pub plain_entry : (ks : List Text) (ts : Trees) (a : Text) (t : Tree) → are_projectable ts ≡ true → found_tree ks ts a ≡ Some t → is_projectable t ≡ true
-plain_entry [] ts a t h e = cc
-plain_entry (k ∷ ks) no_trees a t h e = cc
-plain_entry (k ∷ ks) (a_tree s ts) a t h e =
-    let (hs, hts) = and_parts (is_projectable s) (are_projectable ts) h in
-    entry_step (same_text k a) s t (found_tree ks ts a) hs (plain_entry ks ts a t hts) e
+plain_entry ks ts a t h e = entry_passes is_projectable are_projectable (λ s us i. and_parts (is_projectable s) (are_projectable us) i) ks ts a t h e
 
 module _ (facts : Facts) (good : HoldsMade facts) (later : LeafSettlings) (holds : LeafAnswers) (carries : Carries facts later holds) (leaves : AreMadeLeaves facts holds) where
   raised : (op : Operator) (ts : Trees) (x : Settling) → Below x (or_type op (types_in facts later ts) (or_entry later op ts x))
@@ -37,9 +42,6 @@ module _ (facts : Facts) (good : HoldsMade facts) (later : LeafSettlings) (holds
   raised_to op ts x y h = below_trans x y _ h (raised op ts y)
 
   -- a plain tree never errs
-  leaf_not : (x : Settling) → x ≢ Errs → (x ≡ Errs → ⊥)
-  leaf_not x n = n
-
   abbrev DontErr : Settlings → Type 0
   DontErr SomeErrs = ⊥
   DontErr _ = Unit {0}

@@ -1,14 +1,14 @@
 -- What trees for values settle to, and what is settled where nothing is open.
 use Rattle.std.proofs.Common.{◌≡◌, ◌≢◌, ℕ, Bool, true, false, not, cond, Option, Some, None, List, [], ◌∷◌, refl, sym, ◌∙◌, ap}
 use Rattle.cedar_language.specs.Uid.{Text, Name, Uid}
-use Rattle.cedar_language.specs.Tree.{Boolean, Entity, Operator, Equal, Tree, Trees, no_trees, a_tree}
+use Rattle.cedar_language.specs.Tree.{Entity, Context, Var, GetAttr, HasAttr, Operator, Equal, Tree, Trees, no_trees, a_tree}
 use Rattle.cedar_language.specs.Tree as tree
 use Rattle.cedar_language.specs.Value.{Value, Plain, SetOf, RecordOf, ExtensionOf, Values, no_values, a_value, Outcome, Gives, Fails}
 use Rattle.cedar_language.specs.Order.{same, same_text, same_name}
 use Rattle.cedar_language.specs.Facts.{Facts}
 use Rattle.cedar_language.specs.Constructing.{longs_of}
-use Rattle.cedar_language.specs.Operators.{found, applied}
-use Rattle.cedar_partial_evaluation.specs.Settling.{Settling, Open, Errs, Is, Settlings, SomeOpen, SomeErrs, AllAre, kindless, boolean, and_settled, or_settled, if_settled, and_more, apply_settled, LeafSettlings, or_type, settled_in, all_settled_in}
+use Rattle.cedar_language.specs.Operators.{found}
+use Rattle.cedar_partial_evaluation.specs.Settling.{Settling, Open, Errs, Is, Settlings, SomeOpen, SomeErrs, AllAre, kindless, and_more, LeafSettlings, or_entry, or_type, settled_in, all_settled_in}
 use Rattle.cedar_partial_evaluation.specs.MadeAgain.{tree_of, trees_of, long_values, IsMadeAgain, AreMadeAgain}
 use Rattle.cedar_partial_evaluation.specs.Partial.{answer_of, found_tree}
 use Rattle.cedar_partial_evaluation.specs.Fair.{read}
@@ -36,64 +36,6 @@ mutual
   trees_of_are facts around no_values h = refl
   trees_of_are facts around (a_value v vs) h = rw (tree_of_is facts around v h.0, trees_of_are facts around vs h.1) refl
 
-abbrev pub is_closed : Settling → Bool
-is_closed Open = false
-is_closed _ = true
-
-abbrev pub are_closed : Settlings → Bool
-are_closed SomeOpen = false
-are_closed _ = true
-
-not_open_closed : (x : Settling) → x ≢ Open → is_closed x ≡ true
-not_open_closed Open n = absurd (n refl)
-not_open_closed Errs n = refl
-not_open_closed (Is v) n = refl
-
-boolean_closed : (x : Settling) → is_closed x ≡ true → is_closed (boolean x) ≡ true
-boolean_closed Open h = h
-boolean_closed Errs h = refl
-boolean_closed (Is (Plain (Boolean b))) h = refl
-boolean_closed (Is _) h = refl
-
-pub and_closed : (x y : Settling) → is_closed x ≡ true → is_closed y ≡ true → is_closed (and_settled x y) ≡ true
-and_closed Open y h k = h
-and_closed Errs y h k = refl
-and_closed (Is (Plain (Boolean true))) y h k = boolean_closed y k
-and_closed (Is (Plain (Boolean false))) y h k = refl
-and_closed (Is _) y h k = refl
-
-pub or_closed : (x y : Settling) → is_closed x ≡ true → is_closed y ≡ true → is_closed (or_settled x y) ≡ true
-or_closed Open y h k = h
-or_closed Errs y h k = refl
-or_closed (Is (Plain (Boolean false))) y h k = boolean_closed y k
-or_closed (Is (Plain (Boolean true))) y h k = refl
-or_closed (Is _) y h k = refl
-
-pub if_closed : (x y z : Settling) → is_closed x ≡ true → is_closed y ≡ true → is_closed z ≡ true → is_closed (if_settled x y z) ≡ true
-if_closed Open y z h k l = h
-if_closed Errs y z h k l = refl
-if_closed (Is (Plain (Boolean true))) y z h k l = k
-if_closed (Is (Plain (Boolean false))) y z h k l = l
-if_closed (Is _) y z h k l = refl
-
-pub more_closed : (x : Settling) (xs : Settlings) → is_closed x ≡ true → are_closed xs ≡ true → are_closed (and_more x xs) ≡ true
-more_closed x SomeErrs h k = refl
-more_closed Errs SomeOpen h k = refl
-more_closed Errs (AllAre vs) h k = refl
-more_closed Open SomeOpen h k = h
-more_closed Open (AllAre vs) h k = h
-more_closed (Is v) SomeOpen h k = k
-more_closed (Is v) (AllAre vs) h k = refl
-
-kindless_closed : (o : Outcome) → is_closed (kindless o) ≡ true
-kindless_closed (Gives v) = refl
-kindless_closed (Fails k) = refl
-
-pub apply_closed : (facts : Facts) (op : Operator) (xs : Settlings) → are_closed xs ≡ true → is_closed (apply_settled facts op xs) ≡ true
-apply_closed facts op SomeOpen h = h
-apply_closed facts op SomeErrs h = refl
-apply_closed facts op (AllAre vs) h = kindless_closed (applied facts op vs)
-
 -- ---- types settle what is open alone
 
 pub type_closed : (op : Operator) (os : List (Option Name)) (x : Settling) → x ≢ Open → or_type op os x ≡ x
@@ -104,17 +46,20 @@ type_closed op os x n = refl
 pub type_errs : (op : Operator) (os : List (Option Name)) → or_type op os Errs ≡ Errs
 type_errs op os = type_closed op os Errs (λ h. cc)
 
-outcome_not : (o : Outcome) → kindless o ≢ Open
-outcome_not (Gives v) h = cc
-outcome_not (Fails k) h = cc
+pub entry_errs : (around : LeafSettlings) (op : Operator) (ts : Trees) → or_entry around op ts Errs ≡ Errs
+entry_errs around (GetAttr a) (a_tree (Var Context) no_trees) = refl
+entry_errs around (HasAttr a) (a_tree (Var Context) no_trees) = refl
+entry_errs around op ts = refl
+
+pub applied_errs : (around : LeafSettlings) (op : Operator) (os : List (Option Name)) (ts : Trees) → or_type op os (or_entry around op ts Errs) ≡ Errs
+applied_errs around op os ts = ap (or_type op os) (entry_errs around op ts) ∙ type_errs op os
+
+pub never_open : (o : Outcome) → kindless o ≢ Open
+never_open (Gives v) h = cc
+never_open (Fails k) h = cc
 
 pub type_meant : (op : Operator) (os : List (Option Name)) (o : Outcome) → or_type op os (kindless o) ≡ kindless o
-type_meant op os o = type_closed op os (kindless o) (outcome_not o)
-
-pub types_closed : (op : Operator) (os : List (Option Name)) (x : Settling) → is_closed x ≡ true → is_closed (or_type op os x) ≡ true
-types_closed (tree.Is ty) (o ∷ []) Open h = cc
-types_closed Equal (o ∷ p ∷ []) Open h = cc
-types_closed op os x h = h
+type_meant op os o = type_closed op os (kindless o) (never_open o)
 
 -- both operands of and_more are values where the whole is
 pub more_are : (x : Settling) (xs : Settlings) (ws : Values) → and_more x xs ≡ AllAre ws →

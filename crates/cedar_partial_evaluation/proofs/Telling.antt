@@ -1,32 +1,27 @@
 -- Residuals and contexts evaluated again.
-use Rattle.std.proofs.Common.{◌≡◌, true, Option, Some, None, List, refl, sym, ◌∙◌, Bool, false, ap}
+use Rattle.std.proofs.Common.{◌≡◌, true, Option, Some, None, refl, sym, ◌∙◌, Bool, false, ap}
 use Rattle.std.proofs.lemmas.Bool.{and_parts}
 use Rattle.std.specs.FinMap as finite
-use Rattle.cedar_language.specs.Uid.{Text, Name}
-use Rattle.cedar_language.specs.Tree.{MakeSet, MakeRecord, Call, Tree, Lit, Unknown, Apply, Trees, no_trees, a_tree, ValueType}
-use Rattle.cedar_language.specs.Value.{Value, Kind, Outcome, Gives, Fails}
+use Rattle.cedar_language.specs.Uid.{Text}
+use Rattle.cedar_language.specs.Tree.{Operator, Tree, Lit, Unknown, Apply, Trees, no_trees, a_tree, ValueType}
+use Rattle.cedar_language.specs.Value.{Value, Outcome, Gives, Fails}
 use Rattle.cedar_language.specs.Facts.{Facts}
 use Rattle.cedar_language.specs.Operators.{applied}
-use Rattle.cedar_partial_evaluation.specs.Settling.{Settling, Open, Errs, Is, Below, LeafSettlings, settled_in}
+use Rattle.cedar_partial_evaluation.specs.Settling.{Below, settled_in}
 use Rattle.cedar_partial_evaluation.specs.MadeAgain.{IsMadeAgain, HoldsMade}
 use Rattle.cedar_partial_evaluation.specs.Partial.{Answer, Evaluated, ResidualTree, Failed, Answers, AllEvaluated, SomeResiduals, SomeFailed, answer_of, best_effort, and_next, apply_answer, partial_in, all_partial_in}
-use Rattle.cedar_partial_evaluation.specs.Fair.{read, IsMadeAnswer}
-use Rattle.cedar_partial_evaluation.specs.Prompt.{Meets}
+use Rattle.cedar_partial_evaluation.specs.Fair.{IsMadeAnswer}
 use Rattle.cedar_partial_evaluation.specs.Question.{Told, value_held, name_held, held_names, settled_of, held_of, Extends, AreMadeTold, is_restricted, are_restricted}
 use Rattle.cedar_partial_evaluation.specs.Unknowns.{fits}
 use Rattle.cedar_partial_evaluation.specs.Filling.{request_filled, filled}
 use Rattle.cedar_language.specs.Meaning.{meaning}
 use Rattle.cedar_partial_evaluation.specs.Telling.{ToldAreRead, SettledIsMeant, LaterAnswersAreFair, LaterAnswersArePrompt, ContextsStay}
 use Rattle.cedar_partial_evaluation.proofs.MadeAgain.{AreMadeAnswers, made, all_made, value_again, values_again}
+use Rattle.cedar_partial_evaluation.proofs.Passing.{Stays, data_in}
 use Rattle.cedar_partial_evaluation.proofs.Carried.{below_is, below_trans}
 use Rattle.cedar_partial_evaluation.proofs.Seam.{residuals_settle}
-use Rattle.cedar_partial_evaluation.proofs.Question.{meets_below, telling_carries, held_made, names_made}
+use Rattle.cedar_partial_evaluation.proofs.Question.{meets_below, meets_read, telling_carries, held_made, names_made}
 use Rattle.cedar_partial_evaluation.proofs.Filling.{below_closed, means_filled, reads_below, answers_are_fair, answers_prompt}
-
-meets_read : (facts : Facts) (around : LeafSettlings) (errs_as : Kind → Type 0) (x : Settling) (p : Answer) → Meets errs_as x p → Below x (read facts around p)
-meets_read facts around errs_as Open p m = tt
-meets_read facts around errs_as Errs p (k, e, is) = rw e refl
-meets_read facts around errs_as (Is v) p m = rw m refl
 
 pub told_are_read : ToldAreRead
 told_are_read = record {
@@ -88,23 +83,10 @@ module _ (facts : Facts) (good : HoldsMade facts) (told later : Told) (extends :
   outcome_again t (Gives v) m h = value_again facts (held_names later) v m ∙ sym h
   outcome_again t (Fails k) m h = refl
 
-  set_again : (ts : Trees) (ps : Answers) → IsMadeAnswer facts (apply_answer facts (held_names told) MakeSet ps) → StandAgain ts ps → StandsAgain (Apply MakeSet ts) (apply_answer facts (held_names told) MakeSet ps)
-  set_again ts (AllEvaluated vs) m h = outcome_again (Apply MakeSet ts) (applied facts MakeSet vs) m (rw h refl)
-  set_again ts (SomeResiduals rs) m h = rw h refl
-  set_again ts (SomeFailed k) m h = refl
-
-  record_again : (ks : List Text) (ts : Trees) (ps : Answers) → IsMadeAnswer facts (apply_answer facts (held_names told) (MakeRecord ks) ps) → StandAgain ts ps → StandsAgain (Apply (MakeRecord ks) ts) (apply_answer facts (held_names told) (MakeRecord ks) ps)
-  record_again ks ts (AllEvaluated vs) m h = outcome_again (Apply (MakeRecord ks) ts) (applied facts (MakeRecord ks) vs) m (rw h refl)
-  record_again ks ts (SomeResiduals rs) m h = rw h refl
-  record_again ks ts (SomeFailed k) m h = refl
-
-  call_again : (f : Name) (ts : Trees) (ps : Answers) → IsMadeAnswer facts (apply_answer facts (held_names told) (Call f) ps) → StandAgain ts ps → StandsAgain (Apply (Call f) ts) (apply_answer facts (held_names told) (Call f) ps)
-  call_again f ts (AllEvaluated vs) m h = outcome_again (Apply (Call f) ts) (applied facts (Call f) vs) m (rw h refl)
-  call_again f ts (SomeResiduals rs) m h = rw h refl
-  call_again f ts (SomeFailed k) m h = refl
-
-  abbrev Was : Tree → Answer
-  Was t = partial_in facts (held_names told) t
+  operator_again : (op : Operator) (ts : Trees) (ps : Answers) → Stays op → IsMadeAnswer facts (apply_answer facts (held_names told) op ps) → StandAgain ts ps → StandsAgain (Apply op ts) (apply_answer facts (held_names told) op ps)
+  operator_again op ts (AllEvaluated vs) stays m h = outcome_again (Apply op ts) (applied facts op vs) m (ap (apply_answer facts (held_names later) op) h)
+  operator_again op ts (SomeResiduals rs) stays m h = rw (stays facts (held_names told) rs) (ap (apply_answer facts (held_names later) op) h)
+  operator_again op ts (SomeFailed k) stays m h = refl
 
   was_made : (t : Tree) → IsMadeAnswer facts (partial_in facts (held_names told) t)
   was_made t = made facts good (held_names told) (names_made facts told are_made) t
@@ -113,9 +95,9 @@ module _ (facts : Facts) (good : HoldsMade facts) (told later : Told) (extends :
     again : (t : Tree) → is_restricted t ≡ true → StandsAgain t (partial_in facts (held_names told) t)
     again (Lit l) h = refl
     again (Unknown n ty) h = name_again n ty (finite.get told n) refl
-    again (Apply MakeSet ts) h = set_again ts (all_partial_in facts (held_names told) ts) (was_made (Apply MakeSet ts)) (all_again ts h)
-    again (Apply (MakeRecord ks) ts) h = record_again ks ts (all_partial_in facts (held_names told) ts) (was_made (Apply (MakeRecord ks) ts)) (all_again ts h)
-    again (Apply (Call f) ts) h = call_again f ts (all_partial_in facts (held_names told) ts) (was_made (Apply (Call f) ts)) (all_again ts h)
+    again (Apply op ts) h =
+        let (hs, stays) = data_in op ts h in
+        operator_again op ts (all_partial_in facts (held_names told) ts) stays (was_made (Apply op ts)) (all_again ts hs)
     again _ h = cc
 
     all_again : (ts : Trees) → are_restricted ts ≡ true → StandAgain ts (all_partial_in facts (held_names told) ts)

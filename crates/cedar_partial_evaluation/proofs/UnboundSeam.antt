@@ -1,15 +1,15 @@
 -- What later values settle of residuals without slots.
-use Rattle.std.proofs.Common.{◌≡◌, ◌⊎◌, Bool, true, false, not, Option, Some, None, List, refl, sym, ap, subst, inl, inr, ◌∙◌}
-use Rattle.cedar_language.specs.Uid.{Text, Name, Uid}
-use Rattle.cedar_language.specs.Tree.{Boolean, Context, Operator, Equal, GetAttr, HasAttr, MakeRecord, Tree, Lit, Var, Slot, Unknown, If, And, Or, Apply, Trees, no_trees, a_tree}
+use Rattle.std.proofs.Common.{◌≡◌, ◌⊎◌, true, false, not, Option, Some, List, refl, sym, ap, subst, inl, inr, ◌∙◌}
+use Rattle.cedar_language.specs.Uid.{Name}
+use Rattle.cedar_language.specs.Tree.{Boolean, Context, Operator, Equal, GetAttr, HasAttr, Tree, Lit, Var, Slot, Unknown, If, And, Or, Apply, Trees, no_trees, a_tree}
 use Rattle.cedar_language.specs.Tree as tree
 use Rattle.cedar_language.specs.Value.{Plain, no_values, UnlinkedSlot}
 use Rattle.cedar_language.specs.Order.{same_name}
 use Rattle.cedar_language.specs.Facts.{Facts}
 use Rattle.cedar_language.specs.Meaning.{Slots, slot_outcome, meaning}
-use Rattle.cedar_partial_evaluation.specs.Settling.{Settling, Open, Errs, Is, SomeErrs, kindless, Below, apply_settled, LeafSettlings, or_entry, stated_in, or_type, settled_in, all_settled_in, types_in}
+use Rattle.cedar_partial_evaluation.specs.Settling.{Settling, Open, Errs, Is, Settlings, SomeErrs, kindless, boolean, and_settled, or_settled, if_settled, and_more, Below, apply_settled, LeafSettlings, or_entry, stated_in, or_type, settled_in, all_settled_in, types_in}
 use Rattle.cedar_partial_evaluation.specs.MadeAgain.{HoldsMade}
-use Rattle.cedar_partial_evaluation.specs.Partial.{Answer, ResidualTree, Failed, Answers, AllEvaluated, SomeResiduals, SomeFailed, answer_of, and_next, are_projectable, LeafAnswers, built_answer, projected_in, all_projected_in, found_tree, entry_answer, attribute_answer, residual_answer, apply_answer, partial_in}
+use Rattle.cedar_partial_evaluation.specs.Partial.{Answer, ResidualTree, Failed, Answers, AllEvaluated, answer_of, and_next, LeafAnswers, residual_answer, apply_answer, partial_in}
 use Rattle.cedar_partial_evaluation.specs.Fair.{read, AreMadeLeaves}
 use Rattle.cedar_partial_evaluation.specs.Seam.{Carries}
 use Rattle.cedar_partial_evaluation.specs.Unbound.{unbound, UnboundAnswersAreFair}
@@ -17,13 +17,68 @@ use Rattle.cedar_partial_evaluation.specs.UnboundSeam.{CarriesUnbound, UnboundRe
 use Rattle.cedar_partial_evaluation.specs.Filling.{IsFilling, request_filled, filled, GivesEach}
 use Rattle.cedar_language.specs.Authorization as authorization
 use Rattle.cedar_partial_evaluation.specs.Linking.{no_slots}
-use Rattle.cedar_partial_evaluation.specs.Question.{Question, Told, Extends, AreMadeTold, IsAccepted, settled_of, held_of, variable_held}
-use Rattle.cedar_partial_evaluation.proofs.Question.{meets_below, weak_carries, telling_carries, held_made}
+use Rattle.cedar_partial_evaluation.specs.Question.{Question, Told, Extends, AreMadeTold, IsAccepted, settled_of, held_of}
+use Rattle.cedar_partial_evaluation.proofs.Question.{slot_below, meets_below, weak_carries, telling_carries, held_made}
 use Rattle.cedar_partial_evaluation.proofs.Filling.{below_closed, context_not, means_filled, reads_below, answers_prompt}
-use Rattle.cedar_partial_evaluation.proofs.Sound.{errs_more, type_errs}
+use Rattle.cedar_partial_evaluation.proofs.Alike.{residual_alike, applied_alike}
+use Rattle.cedar_partial_evaluation.proofs.Linking.{with_slots}
+use Rattle.cedar_partial_evaluation.proofs.Sound.{errs_more, entry_errs, applied_errs, type_errs}
 use Rattle.cedar_partial_evaluation.proofs.Seam.{is_answered, equal_answered, left_carries}
 use Rattle.cedar_partial_evaluation.proofs.Carried.{below_trans, answer_type, carried}
-use Rattle.cedar_partial_evaluation.proofs.Unbound.{Worse, AllWorse, and_worse, or_worse, if_worse, more_worse, apply_worse}
+
+-- ---- a leaf that errs leaves each result as it is, or makes it an error
+
+abbrev Worse : Settling → Settling → Type 0
+Worse x y = (y ≡ x) ⊎ (y ≡ Errs)
+
+abbrev AllWorse : Settlings → Settlings → Type 0
+AllWorse xs ys = (ys ≡ xs) ⊎ (ys ≡ SomeErrs)
+
+boolean_worse : (x y : Settling) → Worse x y → Worse (boolean x) (boolean y)
+boolean_worse x y (inl e) = inl (ap boolean e)
+boolean_worse x y (inr e) = inr (rw e refl)
+
+and_right_worse : (x y w : Settling) → Worse y w → Worse (and_settled x y) (and_settled x w)
+and_right_worse Open y w k = inl refl
+and_right_worse Errs y w k = inl refl
+and_right_worse (Is (Plain (Boolean true))) y w k = boolean_worse y w k
+and_right_worse (Is (Plain (Boolean false))) y w k = inl refl
+and_right_worse (Is _) y w k = inl refl
+
+and_worse : (x y z w : Settling) → Worse x z → Worse y w → Worse (and_settled x y) (and_settled z w)
+and_worse x y z w (inl e) k = rw e (and_right_worse x y w k)
+and_worse x y z w (inr e) k = inr (rw e refl)
+
+or_right_worse : (x y w : Settling) → Worse y w → Worse (or_settled x y) (or_settled x w)
+or_right_worse Open y w k = inl refl
+or_right_worse Errs y w k = inl refl
+or_right_worse (Is (Plain (Boolean false))) y w k = boolean_worse y w k
+or_right_worse (Is (Plain (Boolean true))) y w k = inl refl
+or_right_worse (Is _) y w k = inl refl
+
+or_worse : (x y z w : Settling) → Worse x z → Worse y w → Worse (or_settled x y) (or_settled z w)
+or_worse x y z w (inl e) k = rw e (or_right_worse x y w k)
+or_worse x y z w (inr e) k = inr (rw e refl)
+
+branch_worse : (x y u w v : Settling) → Worse y w → Worse u v → Worse (if_settled x y u) (if_settled x w v)
+branch_worse Open y u w v k l = inl refl
+branch_worse Errs y u w v k l = inl refl
+branch_worse (Is (Plain (Boolean true))) y u w v k l = k
+branch_worse (Is (Plain (Boolean false))) y u w v k l = l
+branch_worse (Is _) y u w v k l = inl refl
+
+if_worse : (x y u z w v : Settling) → Worse x z → Worse y w → Worse u v → Worse (if_settled x y u) (if_settled z w v)
+if_worse x y u z w v (inl e) k l = rw e (branch_worse x y u w v k l)
+if_worse x y u z w v (inr e) k l = inr (rw e refl)
+
+more_worse : (x z : Settling) (xs zs : Settlings) → Worse x z → AllWorse xs zs → AllWorse (and_more x xs) (and_more z zs)
+more_worse x z xs zs (inr e) k = inr (rw e (errs_more zs))
+more_worse x z xs zs (inl e) (inr f) = inr (rw f refl)
+more_worse x z xs zs (inl e) (inl f) = inl (rw (e, f) refl)
+
+apply_worse : (facts : Facts) (op : Operator) (xs zs : Settlings) → AllWorse xs zs → Worse (apply_settled facts op xs) (apply_settled facts op zs)
+apply_worse facts op xs zs (inl e) = inl (ap (apply_settled facts op) e)
+apply_worse facts op xs zs (inr e) = inr (rw e refl)
 
 still_below : (x y : Settling) → Below x Errs → Worse x y → Below x y
 still_below Open y h w = tt
@@ -36,35 +91,11 @@ abbrev without : LeafAnswers → LeafAnswers
 without holds = record { variable = holds.variable; unknown = holds.unknown; slot = λ s. Failed UnlinkedSlot }
 
 module _ (facts : Facts) (holds : LeafAnswers) where
-  mutual
-    plain_same : (t : Tree) → projected_in facts (without holds) t ≡ projected_in facts holds t
-    plain_same (Lit l) = refl
-    plain_same (Var v) = refl
-    plain_same (Unknown n ty) = refl
-    plain_same (Apply op ts) = ap (built_answer facts op) (all_plain_same ts)
-    plain_same _ = refl
-
-    all_plain_same : (ts : Trees) → all_projected_in facts (without holds) ts ≡ all_projected_in facts holds ts
-    all_plain_same no_trees = refl
-    all_plain_same (a_tree t ts) = rw (plain_same t, all_plain_same ts) refl
-
-  entry_same : (a : Text) (r : Tree) (b : Bool) (o : Option Tree) → entry_answer facts (without holds) a r b o ≡ entry_answer facts holds a r b o
-  entry_same a r b None = refl
-  entry_same a r true (Some t) = plain_same t
-  entry_same a r false (Some t) = refl
-
-  attribute_same : (a : Text) (r : Tree) → attribute_answer facts (without holds) a r ≡ attribute_answer facts holds a r
-  attribute_same a (Apply (MakeRecord ks) rs) = entry_same a (Apply (MakeRecord ks) rs) (are_projectable rs) (found_tree ks rs a)
-  attribute_same a _ = refl
-
   left_same : (op : Operator) (rs : Trees) → residual_answer facts (without holds) op rs ≡ residual_answer facts holds op rs
-  left_same (GetAttr a) (a_tree r no_trees) = attribute_same a r
-  left_same _ _ = refl
+  left_same op rs = residual_alike facts (without holds) holds (λ v. refl) (λ n ty. refl) op rs
 
   apply_same : (op : Operator) (ps : Answers) → apply_answer facts (without holds) op ps ≡ apply_answer facts holds op ps
-  apply_same op (AllEvaluated vs) = refl
-  apply_same op (SomeResiduals rs) = left_same op rs
-  apply_same op (SomeFailed k) = refl
+  apply_same op ps = applied_alike facts (without holds) holds (λ v. refl) (λ n ty. refl) op ps
 
 module _ (facts : Facts) (good : HoldsMade facts) (later : LeafSettlings) (holds : LeafAnswers) (carries : CarriesUnbound facts later holds) (leaves : AreMadeLeaves facts holds) where
   same_entry : (op : Operator) (ts : Trees) (x : Settling) → or_entry (unbound later) op ts x ≡ or_entry later op ts x
@@ -72,22 +103,14 @@ module _ (facts : Facts) (good : HoldsMade facts) (later : LeafSettlings) (holds
   same_entry (HasAttr a) (a_tree (Var Context) no_trees) Open = refl
   same_entry op ts x = refl
 
-  errs_entry : (op : Operator) (ts : Trees) → or_entry (unbound later) op ts Errs ≡ Errs
-  errs_entry (GetAttr a) (a_tree (Var Context) no_trees) = refl
-  errs_entry (HasAttr a) (a_tree (Var Context) no_trees) = refl
-  errs_entry op ts = refl
-
   entry_worse : (op : Operator) (ts : Trees) (x y : Settling) → Worse x y → Worse (or_entry later op ts x) (or_entry (unbound later) op ts y)
   entry_worse op ts x y (inl e) = inl (rw e (same_entry op ts x))
-  entry_worse op ts x y (inr e) = inr (rw e (errs_entry op ts))
+  entry_worse op ts x y (inr e) = inr (rw e (entry_errs (unbound later) op ts))
 
   same_stated : (t : Tree) → stated_in (unbound later) t ≡ stated_in later t
   same_stated (Var v) = refl
   same_stated (Unknown n ty) = refl
   same_stated _ = refl
-
-  applied_errs : (op : Operator) (os : List (Option Name)) (ts : Trees) → or_type op os (or_entry (unbound later) op ts Errs) ≡ Errs
-  applied_errs op os ts = ap (or_type op os) (errs_entry op ts) ∙ type_errs op os
 
   type_worse : (op : Operator) (os : List (Option Name)) (x y : Settling) → Worse x y → Worse (or_type op os x) (or_type op os y)
   type_worse op os x y (inl e) = inl (ap (or_type op os) e)
@@ -110,7 +133,7 @@ module _ (facts : Facts) (good : HoldsMade facts) (later : LeafSettlings) (holds
       (sym e)
       (type_worse op (types_in facts later ts) (or_entry later op ts (apply_settled facts op (all_settled_in facts later ts)))
       (or_entry (unbound later) op ts (apply_settled facts op (all_settled_in facts (unbound later) ts))) w)
-  applied_worse op ts (inr e) w = inr (rw e (applied_errs op (types_in facts (unbound later) ts) ts))
+  applied_worse op ts (inr e) w = inr (rw e (applied_errs (unbound later) op (types_in facts (unbound later) ts) ts))
 
   mutual
     worse : (t : Tree) → Worse (settled_in facts later t) (settled_in facts (unbound later) t)
@@ -169,26 +192,29 @@ unbound_residuals_settle facts good later holds carries leaves t =
     carried facts good later (unbound later) (λ t h. still_below _ _ h (worse facts good later holds carries leaves t)) holds carries leaves
     (left_below facts good later holds carries leaves) (is_below facts good later holds carries leaves) (equal_below facts good later holds carries leaves) t
 
-slot_below : (facts : Facts) (around : LeafSettlings) (o : Option Uid) → Below (kindless (slot_outcome o)) (read facts around (answer_of (slot_outcome o)))
-slot_below facts around (Some u) = refl
-slot_below facts around None = refl
+-- what holds with slots bound, where the same is carried without
+abbrev holding : LeafAnswers → Slots → LeafAnswers
+holding holds slots = record { variable = holds.variable; unknown = holds.unknown; slot = λ s. answer_of (slot_outcome (slots s)) }
+
+bound_carries : (facts : Facts) (later : LeafSettlings) (holds : LeafAnswers) (slots : Slots) → Carries facts (with_slots later no_slots) (holding holds no_slots) →
+    CarriesUnbound facts (with_slots later slots) (holding holds slots)
+bound_carries facts later holds slots c = record {
+  variable = c.variable;
+  never_errs = c.never_errs;
+  unknown = c.unknown;
+  name_never_errs = c.name_never_errs;
+  typed = c.typed;
+  slot = λ s. slot_below facts (unbound (with_slots later slots)) (slots s);
+  in_context = λ a. rw (applied_alike facts (holding holds no_slots) (holding holds slots) (λ v. refl) (λ n ty. refl) (GetAttr a) (and_next facts (holds.variable Context) (AllEvaluated no_values))) at (c.in_context a);
+  has_in_context = λ a. rw (applied_alike facts (holding holds no_slots) (holding holds slots) (λ v. refl) (λ n ty. refl) (HasAttr a) (and_next facts (holds.variable Context) (AllEvaluated no_values))) at (c.has_in_context a);
+  variable_type = c.variable_type;
+  untold = c.untold;
+}
 
 question_carries : (facts : Facts) (good : HoldsMade facts) (q : Question) (slots : Slots) (told later : Told) → Extends told later → AreMadeTold facts told →
     IsAccepted facts told q.context → IsAccepted facts later q.context → CarriesUnbound facts (settled_of facts q slots later) (held_of facts q slots told)
 question_carries facts good q slots told later e are_made now then =
-    let c : Carries facts (settled_of facts q no_slots later) (held_of facts q no_slots told) = telling_carries facts good q no_slots told later e are_made now then in
-    record {
-      variable = c.variable;
-      never_errs = c.never_errs;
-      unknown = c.unknown;
-      name_never_errs = c.name_never_errs;
-      typed = c.typed;
-      slot = λ s. slot_below facts (unbound (settled_of facts q slots later)) (slots s);
-      in_context = λ a. rw (apply_same facts (held_of facts q slots told) (GetAttr a) (and_next facts (variable_held facts q told Context) (AllEvaluated no_values))) at (c.in_context a);
-      has_in_context = λ a. rw (apply_same facts (held_of facts q slots told) (HasAttr a) (and_next facts (variable_held facts q told Context) (AllEvaluated no_values))) at (c.has_in_context a);
-      variable_type = c.variable_type;
-      untold = c.untold;
-    }
+    bound_carries facts (settled_of facts q no_slots later) (held_of facts q no_slots told) slots (telling_carries facts good q no_slots told later e are_made now then)
 
 pub unbound_answers_are_prompt : UnboundAnswersArePrompt
 unbound_answers_are_prompt facts good q slots told later e are_made then_made now then t r h =
@@ -203,19 +229,7 @@ unbound_answers_are_prompt facts good q slots told later e are_made then_made no
 filling_carries : (facts : Facts) (good : HoldsMade facts) (q : Question) (slots : Slots) (told filling : Told) (known : authorization.Known) → Extends told filling → AreMadeTold facts told →
     IsFilling facts q filling known → CarriesUnbound facts (filled facts q slots filling) (held_of facts q slots told)
 filling_carries facts good q slots told filling known extends are_made fills =
-    let c : Carries facts (filled facts q no_slots filling) (held_of facts q no_slots told) = weak_carries facts good q no_slots told filling extends are_made (context_not facts q filling known fills) in
-    record {
-      variable = c.variable;
-      never_errs = c.never_errs;
-      unknown = c.unknown;
-      name_never_errs = c.name_never_errs;
-      typed = c.typed;
-      slot = λ s. slot_below facts (unbound (filled facts q slots filling)) (slots s);
-      in_context = λ a. tt;
-      has_in_context = λ a. tt;
-      variable_type = λ v ty h. (let k : ◌≡◌ {A = Option Name} None (Some ty) = h in cc);
-      untold = λ n ty h. (let k : false ≡ true = h in cc);
-    }
+    bound_carries facts (filled facts q no_slots filling) (held_of facts q no_slots told) slots (weak_carries facts good q no_slots told filling extends are_made (context_not facts q filling known fills))
 
 -- a residual means without slots what its tree means with them
 pub residual_means : (facts : Facts) (good : HoldsMade facts) (q : Question) (slots : Slots) (told filling : Told) (known : authorization.Known) → Extends told filling → AreMadeTold facts told →

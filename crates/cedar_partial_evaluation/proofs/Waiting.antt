@@ -5,7 +5,7 @@ use Rattle.std.proofs.lemmas.List.Elements.{All-head, All-tail}
 use Rattle.std.specs.Prelude.{map, All, codes}
 use Rattle.std.specs.FinMap as finite
 use Rattle.cedar_language.specs.Uid.{Text, Name, Uid}
-use Rattle.cedar_language.specs.Tree.{Boolean, Variable, Principal, Action, Resource, Context, SlotId, Operator, Equal, GetAttr, HasAttr, MakeSet, MakeRecord, Call, Tree, Lit, Var, Slot, Unknown, If, And, Or, Apply, Trees, no_trees, a_tree, ValueType, EntityType}
+use Rattle.cedar_language.specs.Tree.{Boolean, Variable, Principal, Action, Resource, Context, SlotId, Operator, Equal, GetAttr, HasAttr, MakeRecord, Tree, Lit, Var, Slot, Unknown, If, And, Or, Apply, Trees, no_trees, a_tree, ValueType, EntityType}
 use Rattle.cedar_language.specs.Tree as tree
 use Rattle.cedar_language.specs.Value.{Value, Plain, Kind, Outcome, Gives, Fails}
 use Rattle.cedar_language.specs.Facts.{Facts}
@@ -24,6 +24,7 @@ use Rattle.cedar_partial_evaluation.specs.Linking.{no_slots}
 use Rattle.cedar_partial_evaluation.specs.Early.{standing_of_answer, judged_early}
 use Rattle.cedar_partial_evaluation.specs.Reauthorizing.{condition_again, judged_again}
 use Rattle.cedar_partial_evaluation.specs.Waiting.{IsUntoldIn, IsData, WhatIsLeftWaits, WaitsStill, WaitingIsAnsweredAlike}
+use Rattle.cedar_partial_evaluation.proofs.Passing.{data_in, plain_in}
 use Rattle.cedar_partial_evaluation.proofs.MadeAgain.{AreMadeAnswers, made, all_made, value_again, values_again}
 use Rattle.cedar_partial_evaluation.proofs.Seam.{plain_entry}
 use Rattle.cedar_partial_evaluation.proofs.Question.{names_made, held_made}
@@ -89,9 +90,7 @@ module _ (facts : Facts) (good : HoldsMade facts) (Untold : Text → Option Valu
       pub data_waits : (t : Tree) → is_restricted t ≡ true → Waits (partial_in facts first t)
       data_waits (Lit l) h = tt
       data_waits (Unknown n ty) h = unknown n ty
-      data_waits (Apply MakeSet ts) h = built_waits MakeSet (all_partial_in facts first ts) (λ holds rs. refl) (all_data_wait ts h)
-      data_waits (Apply (MakeRecord ks) ts) h = built_waits (MakeRecord ks) (all_partial_in facts first ts) (λ holds rs. refl) (all_data_wait ts h)
-      data_waits (Apply (Call f) ts) h = built_waits (Call f) (all_partial_in facts first ts) (λ holds rs. refl) (all_data_wait ts h)
+      data_waits (Apply op ts) h = let (hs, stays) = data_in op ts h in built_waits op (all_partial_in facts first ts) (stays facts) (all_data_wait ts hs)
       data_waits _ h = cc
 
       all_data_wait : (ts : Trees) → are_restricted ts ≡ true → AllWait (all_partial_in facts first ts)
@@ -106,8 +105,7 @@ module _ (facts : Facts) (good : HoldsMade facts) (Untold : Text → Option Valu
         plain_waits (Lit l) h = tt
         plain_waits (Unknown n ty) h = unknown n ty
         plain_waits (Var v) h = variable v
-        plain_waits (Apply MakeSet ts) h = built_waits MakeSet (all_partial_in facts first ts) (λ holds rs. refl) (all_plain_wait ts h)
-        plain_waits (Apply (MakeRecord ks) ts) h = built_waits (MakeRecord ks) (all_partial_in facts first ts) (λ holds rs. refl) (all_plain_wait ts h)
+        plain_waits (Apply op ts) h = let (hs, stays) = plain_in op ts h in built_waits op (all_partial_in facts first ts) (stays facts) (all_plain_wait ts hs)
         plain_waits _ h = cc
 
         all_plain_wait : (ts : Trees) → are_projectable ts ≡ true → AllWait (all_partial_in facts first ts)

@@ -16,7 +16,8 @@ use std::alloc::{AllocError, Global};
 
 impl PolicySet {
     /// Sees to it that the index of scopes covers the whole set. What is covered already isn't looked at.
-    /// Refused for memory alone; what was covered till then stays so.
+    /// Refused for memory alone; what was covered till then stays so. Contracts don't see how much of a set is covered:
+    /// they promise that no entry changes, and that what `scopes` gives covers a beginning.
     pub fn index_scopes(&mut self, alloc: Global) -> Result<(), AllocError>
         ensures { self.new ≡ self.old }
     {
@@ -40,7 +41,7 @@ impl PolicySet {
     }
 }
 
-// Covers what isn't covered yet.
+// Covers what isn't covered yet: all is covered then.
 fn cover(alloc: Global, scopes: &mut ScopeIndex, bound: &PolicyMap<Bound>) -> Result<(), AllocError>
     requires { Covers (entries_of bound.now) scopes.old }
     ensures covers { Covers (entries_of bound.now) scopes.new }

@@ -161,7 +161,8 @@ impl PolicySet {
         Ok(None)
     }
 
-    // Where a search for a free id `policyN` may begin that looks at no number below this one.
+    // Where a search for a free id `policyN` may begin that looks at no number below this one. How far on that is
+    // no contract says: it saves looks alone.
     fn skip_bound(&self, from: u64) -> u64
         ensures from { from ≤ result }
         ensures bound { BindsNumbers self.now from result }

@@ -351,6 +351,7 @@ impl<'e, 'f, F: ExtensionFunctionObject> Session<'e, 'f, F> {
         requires { length text.now ≤ body_limit }
         ensures step { Step (setting_of self.old) (world_of self.old) AskVerb text.now (ask_reply result) (world_of self.new) }
         ensures ordinary { IfOk result (λ answer. AnswersOrdinarily (setting_of self.old) (world_of self.old) (answer_of answer)) }
+        ensures found { IfOk result (λ answer. AnswersAsFound (setting_of self.old) (world_of self.old) text.now (answer_of answer)) }
         ensures setting { setting_of self.new ≡ setting_of self.old }
     {
         self.policies.index(self.allocator)?;

@@ -1,5 +1,5 @@
 -- Policies that are taken up again stand as their conditions do.
-use Rattle.std.proofs.Common.{◌≡◌, ◌⊎◌, inl, inr, true, false, Some, [], ◌∷◌, sym, ◌∙◌, ap, subst}
+use Rattle.std.proofs.Common.{◌≡◌, ◌⊎◌, inl, inr, true, false, Some, List, [], ◌∷◌, refl, sym, ◌∙◌, ap, subst}
 use Rattle.std.specs.FinMap as finite
 use Rattle.std.proofs.lemmas.List.Elements.{All-nil, All-cons}
 use Rattle.cedar_language.specs.Uid.{Text}
@@ -7,7 +7,7 @@ use Rattle.cedar_language.specs.Tree.{Tree}
 use Rattle.cedar_language.specs.Value.{Kind, Outcome}
 use Rattle.cedar_language.specs.Facts.{Facts}
 use Rattle.cedar_language.specs.Meaning.{Slots, meaning}
-use Rattle.cedar_language.specs.Answering.{Permit, Standing, Erring, is_residual}
+use Rattle.cedar_language.specs.Answering.{Permit, Decision, Allow, Deny, Standing, Satisfied, Erring, Residual, Judged, is_residual, decision}
 use Rattle.cedar_language.specs.Authorization.{Policy, Known, standing_of}
 use Rattle.cedar_partial_evaluation.specs.Settling.{kindless, Below, settled_in}
 use Rattle.cedar_partial_evaluation.specs.MadeAgain.{HoldsMade}
@@ -32,15 +32,30 @@ use Rattle.cedar_world.specs.First.{IsData, NamesNoUnknown}
 use Rattle.cedar_world.specs.Sound.{Becomes, ErrsOrErred}
 use Rattle.cedar_world.specs.Again.{standing_again, StandsAgain, ErredFirst, AgainIsSound}
 use Rattle.cedar_world.proofs.Carrying.{carries_unbound}
-use Rattle.cedar_world.proofs.EarlySound.{reads_filled, reads_later, settled_as, means_known}
+use Rattle.cedar_world.proofs.EarlySound.{reads_filled, reads_later, means_known}
 use Rattle.cedar_world.proofs.Fillings.{filling_there, made_at_first, extends_nothing}
-use Rattle.cedar_world.proofs.HeldMade.{held_made}
-use Rattle.cedar_world.proofs.OneJudged.{closed_where_decided, decided_where_closed}
+use Rattle.cedar_partial_evaluation.proofs.Question.{held_made}
+use Rattle.cedar_world.proofs.Standings.{settled_as}
 use Rattle.cedar_world.proofs.LaterStandings.{below_closed, answer_becomes, again_becomes, alike_standing, settled_stands, settled_closed}
+
+-- ---- the decision on one permit alone says whether it is open
+
+-- one permit that stands so
+abbrev one_permit : Standing → List Judged
+one_permit s = record { id = []; effect = Permit; standing = s } ∷ []
+
+closed_where_decided : (s : Standing) (d : Decision) → decision (one_permit s) ≡ Some d → is_residual s ≡ false
+closed_where_decided Residual d h = cc
+closed_where_decided _ d h = refl
+
+decided_where_closed : (s : Standing) → is_residual s ≡ false → (d : Decision) × (decision (one_permit s) ≡ Some d)
+decided_where_closed Satisfied h = (Allow, refl)
+decided_where_closed Residual h = cc
+decided_where_closed _ h = (Deny, refl)
 
 -- ---- one tree with its slots bound
 
-module _ (facts : Facts) (made : HoldsMade facts) (q : Question) (of_data : IsData q.context) (accepted : IsAccepted facts finite.empty q.context)
+module _ (facts : Facts) (made : HoldsMade facts) (q : Question) (accepted : IsAccepted facts finite.empty q.context)
     (told : Told) (are_made : AreMadeTold facts told) (now : IsAccepted facts told q.context) (slots : Slots) (t : Tree) where
   abbrev first : Answer
   first = partial_in facts (held_of facts q slots finite.empty) t
@@ -65,16 +80,16 @@ module _ (facts : Facts) (made : HoldsMade facts) (q : Question) (of_data : IsDa
       settled_in facts (settled_of facts q slots later) t ≡ kindless o → Becomes again (standing_of o)
   becomes_settled carries settle unbound_settle later extends then o is =
       again_becomes facts (held_of facts q no_slots told) first (standing_of o)
-      (answer_becomes facts (settled_of facts q slots later) first o (reads_later carries settle facts made q of_data slots finite.empty later (extends_nothing later) (made_at_first facts) accepted then t o is))
+      (answer_becomes facts (settled_of facts q slots later) first o (reads_later carries settle facts made q slots finite.empty later (extends_nothing later) (made_at_first facts) accepted then t o is))
       (λ r left. answer_becomes facts (settled_of facts q no_slots later) (partial_in facts (held_of facts q no_slots told) r) o
-      (reads_later carries settle facts made q of_data no_slots told later extends are_made now then r o (left_settles r left)))
+      (reads_later carries settle facts made q no_slots told later extends are_made now then r o (left_settles r left)))
     where
       left_settles : (r : Tree) → first ≡ ResidualTree r → settled_in facts (settled_of facts q no_slots later) r ≡ kindless o
       left_settles r left =
           let carried : Below (settled_in facts (settled_of facts q slots later) t) (settled_in facts (settled_of facts q no_slots later) r) =
           rw left at
           (unbound_settle facts made (settled_of facts q slots later) (held_of facts q slots finite.empty)
-          (carries_unbound carries facts made q slots finite.empty later (extends_nothing later) (made_at_first facts) accepted then) (held_made facts made finite.empty (made_at_first facts) q slots of_data) t) in
+          (carries_unbound carries facts made q slots finite.empty later (extends_nothing later) (made_at_first facts) accepted then) (held_made facts made q slots finite.empty (made_at_first facts)) t) in
           sym (below_closed (settled_in facts (settled_of facts q slots later) t) (settled_in facts (settled_of facts q no_slots later) r) o is carried)
 
   closed_again : ReauthorizingIsSharp → (o : Outcome) → settled_in facts (settled_of facts q slots told) t ≡ kindless o → is_residual again ≡ false
@@ -129,7 +144,7 @@ module _ (links : LinkConditions) (fairly : AnswersAreFair) (meant : FilledIsMea
       gives filling = given filling (λ v. true) true unbound stands.names_nothing
 
       -- what erred or errs with slots bound did so as it is written
-      erred_so : IsErring (standing_of_answer (first facts made q of_data accepted told are_made now stands.slots unbound)) ⊎ IsErring (standing_again facts q told stands.slots unbound) →
+      erred_so : IsErring (standing_of_answer (first facts made q accepted told are_made now stands.slots unbound)) ⊎ IsErring (standing_again facts q told stands.slots unbound) →
           ErrsOrErred standing (ErredFirst facts q s)
       erred_so (inl (k, e)) =
           inr (
@@ -145,25 +160,25 @@ module _ (links : LinkConditions) (fairly : AnswersAreFair) (meant : FilledIsMea
       fair_so id force filling request extends fills =
           subst (λ x. Becomes x (standing_of (means facts request (condition s)))) (sym stands.stands)
           (subst (λ x. Becomes (standing_again facts q told stands.slots unbound) (standing_of x)) (means_so id force filling request)
-          (becomes_filled facts made q of_data accepted told are_made now stands.slots unbound fairly meant unbound_fairly filling request extends fills (gives filling)))
+          (becomes_filled facts made q accepted told are_made now stands.slots unbound fairly meant unbound_fairly filling request extends fills (gives filling)))
 
       carried_so : (later : Told) → Extends told later → IsAccepted facts later q.context → (result : Outcome) → Settles facts q later (condition s) result → Becomes standing (standing_of result)
       carried_so later extends then result settles =
           subst (λ x. Becomes x (standing_of result)) (sym stands.stands)
-          (becomes_settled facts made q of_data accepted told are_made now stands.slots unbound carries settle unbound_settle later extends then result (settles_so later result settles))
+          (becomes_settled facts made q accepted told are_made now stands.slots unbound carries settle unbound_settle later extends then result (settles_so later result settles))
 
       sharp_so : (result : Outcome) → Settles facts q told (condition s) result → (is_residual standing ≡ false) × ((k : Kind) → standing_of result ≡ Erring k → ErrsOrErred standing (ErredFirst facts q s))
       sharp_so result settles =
           let is = settles_so told result settles in (
-            ap is_residual stands.stands ∙ closed_again facts made q of_data accepted told are_made now stands.slots unbound sharper result is,
-            λ k errs. erred_so (errs_again facts made q of_data accepted told are_made now stands.slots unbound named result is k errs),
+            ap is_residual stands.stands ∙ closed_again facts made q accepted told are_made now stands.slots unbound sharper result is,
+            λ k errs. erred_so (errs_again facts made q accepted told are_made now stands.slots unbound named result is k errs),
           )
 
       exact_so : (id : Text) → in_force_at world.policies id ≡ Some s → (request : Known) → IsFilling facts q told request →
           (is_residual standing ≡ false) × ((k : Kind) → standing_of (means facts request (condition s)) ≡ Erring k → ErrsOrErred standing (ErredFirst facts q s))
       exact_so id force request fills = (
-        ap is_residual stands.stands ∙ closed_at_last facts made q of_data accepted told are_made now stands.slots unbound ends request fills (gives told),
-        λ k errs. erred_so (errs_at_last facts made q of_data accepted told are_made now stands.slots unbound ends request fills (gives told) k (ap standing_of (means_so id force told request) ∙ errs)),
+        ap is_residual stands.stands ∙ closed_at_last facts made q accepted told are_made now stands.slots unbound ends request fills (gives told),
+        λ k errs. erred_so (errs_at_last facts made q accepted told are_made now stands.slots unbound ends request fills (gives told) k (ap standing_of (means_so id force told request) ∙ errs)),
       )
 
   pub again_is_sound : AgainIsSound

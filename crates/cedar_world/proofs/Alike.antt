@@ -1,17 +1,18 @@
 -- Worlds that are alike have the same answers.
-use Rattle.std.proofs.Common.{◌≡◌, map, refl, sym, ◌∙◌, ap, subst, is_some}
+use Rattle.std.proofs.Common.{◌≡◌, Some, map, refl, sym, ◌∙◌, ap, subst, is_some}
 use Rattle.std.specs.FinMap as finite
 use Rattle.cedar_language.specs.Uid.{Text}
 use Rattle.cedar_language.specs.Facts.{Facts}
 use Rattle.cedar_language.specs.Answering.{Effect, Standing}
 use Rattle.cedar_language.specs.Authorization.{Known}
 use Rattle.cedar_world.specs.Answer.{Answer}
-use Rattle.cedar_world.specs.World.{World, Asked, Policy, Entities, AreFacts}
+use Rattle.cedar_world.specs.World.{World, Asked, Policy, Entities, AreFacts, in_force_at}
 use Rattle.cedar_world.specs.Asking.{Question, Told}
 use Rattle.cedar_world.specs.Setting.{Setting}
 use Rattle.cedar_world.specs.Answers.{judge, answer_of, known_answer, IsKnownAnswer, IsDecided, IsOut, AllOut, SomeHolds, SaysDecided, SaysKinds, IsFair, NamesNoGhosts, IsPromptButKinds, NamesKinds}
 use Rattle.cedar_world.specs.LinkLaws.{LinkingIsWriting}
 use Rattle.cedar_grammar.specs.Bindings.{linked}
+use Rattle.cedar_grammar.specs.Syntax.{PolicySyntax}
 use Rattle.cedar_world.specs.Step.{IsFirstAnswer, IsLaterAnswer}
 use Rattle.cedar_world.specs.InForce.{AreAlike, AnswerAlike, AnswersReadWhatIsInForce, LinksAreAnsweredAsWritten}
 use Rattle.cedar_world.proofs.InForce.{listed, found_in_force, one_list}
@@ -33,45 +34,51 @@ module _ (by : Setting) (world other : World) (alike : AreAlike world other) whe
     is = known.is ∙ same_known by world other known.facts request alike;
   }
 
-  decided_there : (facts : Facts) (q : Question) (told : Told) (id : Text) (effect : Effect) (standing : Standing) → IsDecided by world facts q told id effect standing → IsDecided by other facts q told id effect standing
-  decided_there facts q told id effect standing d = record {
+-- what is in force in one world is in force in the other
+module _ (by : Setting) (world other : World) (into : (id : Text) (s : PolicySyntax) → in_force_at world.policies id ≡ Some s → in_force_at other.policies id ≡ Some s) (facts : Facts) (q : Question) (told : Told) where
+  pub decided_into : (id : Text) (effect : Effect) (standing : Standing) → IsDecided by world facts q told id effect standing → IsDecided by other facts q told id effect standing
+  decided_into id effect standing d = record {
     syntax = d.syntax;
-    in_force = sym (alike.policies id) ∙ d.in_force;
+    in_force = into id d.syntax d.in_force;
     effect_is = d.effect_is;
     result = d.result;
     settles = d.settles;
     standing_is = d.standing_is;
   }
 
-module _ (by : Setting) (world other : World) (alike : AreAlike world other) (facts : Facts) (q : Question) (told : Told) where
-  decided_back : (id : Text) (effect : Effect) (standing : Standing) → IsDecided by other facts q told id effect standing → IsDecided by world facts q told id effect standing
-  decided_back = decided_there by other world (swapped world other alike) facts q told
+  pub out_into : (id : Text) (effect : Effect) → IsOut by world facts q told id effect → IsOut by other facts q told id effect
+  out_into id effect (standing, not, d) = (standing, not, decided_into id effect standing d)
 
-  out_back : (id : Text) (effect : Effect) → IsOut by other facts q told id effect → IsOut by world facts q told id effect
-  out_back id effect (standing, not, d) = (standing, not, decided_back id effect standing d)
+  some_into : (effect : Effect) → SomeHolds by world facts q told effect → SomeHolds by other facts q told effect
+  some_into effect (id, d) = (id, decided_into id effect _ d)
 
-  all_out_back : (effect : Effect) → AllOut by other facts q told effect → AllOut by world facts q told effect
-  all_out_back effect out id s h e = out_back id effect (out id s (sym (alike.policies id) ∙ h) e)
-
-  some_back : (effect : Effect) → SomeHolds by other facts q told effect → SomeHolds by world facts q told effect
-  some_back effect (id, d) = (id, decided_back id effect _ d)
-
-  decided_said : (answer : Answer) → SaysDecided by world facts q told answer → SaysDecided by other facts q told answer
-  decided_said answer says = record {
-    denies = λ h. says.denies (some_back _ h);
-    denies_too = λ h. says.denies_too (all_out_back _ h);
-    allows = λ h k. says.allows (all_out_back _ h) (some_back _ k);
-    must_forbids = λ id d. says.must_forbids id (decided_back id _ _ d);
-    must_permits = λ h id d. says.must_permits (all_out_back _ h) id (decided_back id _ _ d);
-    may_not = λ id effect o. says.may_not id effect (out_back id effect o);
-    may_forbids = λ h id s k. says.may_forbids (some_back _ h) id s (alike.policies id ∙ k);
-    erring = λ id effect k d. says.erring id effect k (decided_back id effect _ d);
+  -- what is said there is said here
+  pub decided_said : ((effect : Effect) → AllOut by world facts q told effect → AllOut by other facts q told effect) → (answer : Answer) → SaysDecided by other facts q told answer → SaysDecided by world facts q told answer
+  decided_said all_out answer says = record {
+    denies = λ h. says.denies (some_into _ h);
+    denies_too = λ h. says.denies_too (all_out _ h);
+    allows = λ h k. says.allows (all_out _ h) (some_into _ k);
+    must_forbids = λ id d. says.must_forbids id (decided_into id _ _ d);
+    must_permits = λ h id d. says.must_permits (all_out _ h) id (decided_into id _ _ d);
+    may_not = λ id effect o. says.may_not id effect (out_into id effect o);
+    may_forbids = λ h id s k. says.may_forbids (some_into _ h) id s (into id s k);
+    erring = λ id effect k d. says.erring id effect k (decided_into id effect _ d);
   }
+
+module _ (by : Setting) (world other : World) (alike : AreAlike world other) (facts : Facts) (q : Question) (told : Told) where
+  here : (id : Text) (s : PolicySyntax) → in_force_at other.policies id ≡ Some s → in_force_at world.policies id ≡ Some s
+  here id s h = alike.policies id ∙ h
+
+  there : (id : Text) (s : PolicySyntax) → in_force_at world.policies id ≡ Some s → in_force_at other.policies id ≡ Some s
+  there id s h = sym (alike.policies id) ∙ h
+
+  said_there : (answer : Answer) → SaysDecided by world facts q told answer → SaysDecided by other facts q told answer
+  said_there = decided_said by other world here facts q told (λ effect out id s h e. out_into by other world here facts q told id effect (out id s (there id s h) e))
 
   kinds_said : (answer : Answer) → SaysKinds by world facts q told answer → SaysKinds by other facts q told answer
   kinds_said answer says id effect k d =
-      let (l, named, still) = says id effect k (decided_back id effect _ d) in
-      (l, named, decided_there by world other alike facts q told id effect _ still)
+      let (l, named, still) = says id effect k (decided_into by other world here facts q told id effect _ d) in
+      (l, named, decided_into by world other there facts q told id effect _ still)
 
 module _ (by : Setting) (world other : World) (alike : AreAlike world other) where
   back : AreAlike other world
@@ -81,7 +88,7 @@ module _ (by : Setting) (world other : World) (alike : AreAlike world other) whe
   fair_there q told answer fair filling request whole agrees known = fair filling request whole agrees (known_there by other world back request whole known)
 
   pub prompt_there : (q : Question) (told : Told) (answer : Answer) → IsPromptButKinds by world q told answer → IsPromptButKinds by other q told answer
-  prompt_there q told answer prompt facts are = decided_said by world other alike facts q told answer (prompt facts (facts_there by other world back facts are))
+  prompt_there q told answer prompt facts are = said_there by world other alike facts q told answer (prompt facts (facts_there by other world back facts are))
 
   pub kinds_there : (q : Question) (told : Told) (answer : Answer) → NamesKinds by world q told answer → NamesKinds by other q told answer
   kinds_there q told answer kinds facts are = kinds_said by world other alike facts q told answer (kinds facts (facts_there by other world back facts are))

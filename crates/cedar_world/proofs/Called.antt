@@ -2,7 +2,7 @@
 use Rattle.std.proofs.Common.{◌≡◌, Bool, true, false, ◌&&◌, Option, Some, None, List, [], ◌∷◌, ◌++◌, inl, inr, refl, subst}
 use Rattle.std.specs.List.{list_all}
 use Rattle.cedar_language.specs.Uid.{Name, Uid}
-use Rattle.cedar_language.specs.Tree.{String, SlotId, Operator, Call, Tree, Lit, Var, Slot, Unknown, If, And, Or, Apply, Trees, no_trees, a_tree}
+use Rattle.cedar_language.specs.Tree.{String, SlotId, Operator, Call, Tree, Lit, Slot, If, And, Or, Apply, Trees, no_trees, a_tree}
 use Rattle.cedar_language.specs.Slots.{Slots, tree_slots, trees_slots, bound_slot, bound_tree, bound_trees}
 use Rattle.cedar_grammar.specs.Calls.{calls_none_but, calls_only, all_call_only}
 use Rattle.cedar_world.specs.Asking.{Entries, Question}
@@ -30,14 +30,12 @@ module _ (passes : Name → Bool) (b : Slots) where
   mutual
     -- a tree calls what it calls with its slots bound
     pub bound_calls : (t : Tree) → calls_among true passes (bound_tree b t) ≡ calls_among true passes t
-    bound_calls (Lit l) = refl
-    bound_calls (Var v) = refl
     bound_calls (Slot s) = slot_calls s (b s)
-    bound_calls (Unknown n ty) = refl
     bound_calls (If t y n) = rw (bound_calls t, bound_calls y, bound_calls n) refl
     bound_calls (And l r) = rw (bound_calls l, bound_calls r) refl
     bound_calls (Or l r) = rw (bound_calls l, bound_calls r) refl
     bound_calls (Apply op ts) = rw (all_bound_call ts) refl
+    bound_calls _ = refl
 
     all_bound_call : (ts : Trees) → all_call_among true passes (bound_trees b ts) ≡ all_call_among true passes ts
     all_bound_call no_trees = refl
@@ -53,10 +51,6 @@ module _ (fewer passes : Name → Bool) (pass : (name : Name) → fewer name ≡
   mutual
     -- where fewer names pass
     pub fewer_pass : (t : Tree) → calls_only fewer t ≡ true → calls_among true passes t ≡ true
-    fewer_pass (Lit l) h = refl
-    fewer_pass (Var v) h = refl
-    fewer_pass (Slot s) h = refl
-    fewer_pass (Unknown n ty) h = refl
     fewer_pass (If t y n) h =
         let (ht, rest) = and_parts (calls_only fewer t) (calls_only fewer y && calls_only fewer n) h in
         let (hy, hn) = and_parts (calls_only fewer y) (calls_only fewer n) rest in
@@ -64,6 +58,7 @@ module _ (fewer passes : Name → Bool) (pass : (name : Name) → fewer name ≡
     fewer_pass (And l r) h = let (hl, hr) = and_parts (calls_only fewer l) (calls_only fewer r) h in and_from _ _ (fewer_pass l hl) (fewer_pass r hr)
     fewer_pass (Or l r) h = let (hl, hr) = and_parts (calls_only fewer l) (calls_only fewer r) h in and_from _ _ (fewer_pass l hl) (fewer_pass r hr)
     fewer_pass (Apply op ts) h = let (c, i) = and_parts (calls_none_but fewer op) (all_call_only fewer ts) h in and_from _ _ (operator_passes op c) (all_fewer_pass ts i)
+    fewer_pass _ h = refl
 
     all_fewer_pass : (ts : Trees) → all_call_only fewer ts ≡ true → all_call_among true passes ts ≡ true
     all_fewer_pass no_trees h = refl
@@ -73,10 +68,7 @@ module _ (passes : Name → Bool) where
   mutual
     -- no slot stands in the tree
     pub without_slots : (t : Tree) → tree_slots t ≡ [] → calls_among true passes t ≡ true → calls_among false passes t ≡ true
-    without_slots (Lit l) e h = refl
-    without_slots (Var v) e h = refl
     without_slots (Slot s) e h = absurd (cc e)
-    without_slots (Unknown n ty) e h = refl
     without_slots (If t y n) e h =
         let (ht, rest) = and_parts (calls_among true passes t) (calls_among true passes y && calls_among true passes n) h in
         let (hy, hn) = and_parts (calls_among true passes y) (calls_among true passes n) rest in
@@ -90,6 +82,7 @@ module _ (passes : Name → Bool) where
         let (hl, hr) = and_parts (calls_among true passes l) (calls_among true passes r) h in
         and_from _ _ (without_slots l (first_empty (tree_slots l) (tree_slots r) e) hl) (without_slots r (second_empty (tree_slots l) (tree_slots r) e) hr)
     without_slots (Apply op ts) e h = let (c, i) = and_parts (calls_none_but passes op) (all_call_among true passes ts) h in and_from _ _ c (all_without_slots ts e i)
+    without_slots _ e h = refl
 
     all_without_slots : (ts : Trees) → trees_slots ts ≡ [] → all_call_among true passes ts ≡ true → all_call_among false passes ts ≡ true
     all_without_slots no_trees e h = refl

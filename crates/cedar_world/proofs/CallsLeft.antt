@@ -10,7 +10,7 @@ use Rattle.cedar_language.specs.Order.{same_text}
 use Rattle.cedar_language.specs.Facts.{Facts}
 use Rattle.cedar_language.specs.Operators as operators
 use Rattle.cedar_partial_evaluation.specs.MadeAgain.{tree_of, trees_of}
-use Rattle.cedar_partial_evaluation.specs.Partial.{Answer, Evaluated, ResidualTree, Failed, Answers, AllEvaluated, SomeResiduals, SomeFailed, answer_of, best_effort, last_answer, and_answer, or_answer, if_answer, and_next, are_projectable, LeafAnswers, built_answer, projected_in, all_projected_in, found_tree, entry_answer, attribute_answer, has_entry_answer, has_answer, is_answer, stated_type, types_differ, equal_answer, residual_answer, apply_answer, partial_in, all_partial_in}
+use Rattle.cedar_partial_evaluation.specs.Partial.{Answer, Evaluated, ResidualTree, Failed, Answers, AllEvaluated, SomeResiduals, SomeFailed, answer_of, best_effort, last_answer, and_answer, or_answer, if_answer, and_next, are_projectable, LeafAnswers, built_answer, projected_in, all_projected_in, found_tree, entry_answer, has_entry_answer, stated_type, types_differ, equal_answer, residual_answer, apply_answer, partial_in, all_partial_in}
 use Rattle.cedar_grammar.specs.Calls.{calls_none_but}
 use Rattle.cedar_world.specs.Lookups.{calls_among, all_call_among}
 
@@ -52,11 +52,10 @@ module _ (slots : Bool) (passes : Name → Bool) (IsFine : Kind → Type 0) wher
   found_step false t o h k = k
 
   found_passes : (ks : List Text) (ts : Trees) (a : Text) → all_call_among slots passes ts ≡ true → Passes (found_tree ks ts a)
-  found_passes [] ts a h = tt
-  found_passes (k ∷ ks) no_trees a h = tt
   found_passes (k ∷ ks) (a_tree t ts) a h =
       let (ht, hts) = and_parts (calls_among slots passes t) (all_call_among slots passes ts) h in
       found_step (same_text k a) t (found_tree ks ts a) ht (found_passes ks ts a hts)
+  found_passes _ _ a h = tt
 
   longs_pass : (bs : List ℕ) → all_call_among slots passes (longs_of bs) ≡ true
   longs_pass [] = refl
@@ -82,14 +81,12 @@ module _ (slots : Bool) (passes : Name → Bool) (IsFine : Kind → Type 0) wher
     and_last_kept : (q : Answer) → IsKept q → IsKept (last_answer (And (Lit (Boolean true))) q)
     and_last_kept (Evaluated (Plain (Boolean b))) h = tt
     and_last_kept (Evaluated _) h = keeps.type_error
-    and_last_kept (ResidualTree r) h = h
-    and_last_kept (Failed k) h = h
+    and_last_kept _ h = h
 
     or_last_kept : (q : Answer) → IsKept q → IsKept (last_answer (Or (Lit (Boolean false))) q)
     or_last_kept (Evaluated (Plain (Boolean b))) h = tt
     or_last_kept (Evaluated _) h = keeps.type_error
-    or_last_kept (ResidualTree r) h = h
-    or_last_kept (Failed k) h = h
+    or_last_kept _ h = h
 
     pub and_kept : (p q : Answer) (r : Tree) → IsKept p → IsKept q → calls_among slots passes r ≡ true → IsKept (and_answer facts p q r)
     and_kept (ResidualTree s) q r h i j = and_from (calls_among slots passes s) (calls_among slots passes (best_effort facts q r)) h (best_effort_passes q r i j)
@@ -118,10 +115,9 @@ module _ (slots : Bool) (passes : Name → Bool) (IsFine : Kind → Type 0) wher
     next_kept (Failed k) ps h i = h
     next_kept (Evaluated v) (AllEvaluated vs) h i = tt
     next_kept (Evaluated v) (SomeResiduals rs) h i = and_from (calls_among slots passes (tree_of facts v)) (all_call_among slots passes rs) (value_passes v) i
-    next_kept (Evaluated v) (SomeFailed k) h i = i
     next_kept (ResidualTree r) (AllEvaluated vs) h i = and_from (calls_among slots passes r) (all_call_among slots passes (trees_of facts vs)) h (values_pass vs)
     next_kept (ResidualTree r) (SomeResiduals rs) h i = and_from (calls_among slots passes r) (all_call_among slots passes rs) h i
-    next_kept (ResidualTree r) (SomeFailed k) h i = i
+    next_kept _ (SomeFailed k) h i = i
 
     module _ (holds : LeafAnswers) (leaves : AreKeptLeaves holds) where
       built_kept : (o : Operator) (ps : Answers) → calls_none_but passes o ≡ true → AreKept ps → IsKept (built_answer facts o ps)
@@ -145,43 +141,29 @@ module _ (slots : Bool) (passes : Name → Bool) (IsFine : Kind → Type 0) wher
             let (ht, hts) = and_parts (calls_among slots passes t) (all_call_among slots passes ts) h in
             next_kept (projected_in facts holds t) (all_projected_in facts holds ts) (projected_kept t ht) (all_projected_kept ts hts)
 
-      -- one operand, as it stands among operands
-      alone : (r : Tree) → calls_among slots passes r ≡ true → all_call_among slots passes (a_tree r no_trees) ≡ true
-      alone r h = and_from (calls_among slots passes r) true h refl
-
-      the_one : (r : Tree) → all_call_among slots passes (a_tree r no_trees) ≡ true → calls_among slots passes r ≡ true
-      the_one r h = (and_parts (calls_among slots passes r) true h).0
-
-      entry_kept : (a : Text) (r : Tree) (b : Bool) (o : Option Tree) → calls_among slots passes r ≡ true → Passes o → IsKept (entry_answer facts holds a r b o)
+      entry_kept : (a : Text) (r : Tree) (b : Bool) (o : Option Tree) → all_call_among slots passes (a_tree r no_trees) ≡ true → Passes o → IsKept (entry_answer facts holds a r b o)
       entry_kept a r b None h i = keeps.no_attribute
       entry_kept a r true (Some t) h i = projected_kept t i
-      entry_kept a r false (Some t) h i = alone r h
+      entry_kept a r false (Some t) h i = h
 
-      attribute_kept : (a : Text) (r : Tree) → calls_among slots passes r ≡ true → IsKept (attribute_answer facts holds a r)
-      attribute_kept a (Apply (MakeRecord ks) rs) h = entry_kept a (Apply (MakeRecord ks) rs) (are_projectable rs) (found_tree ks rs a) h (found_passes ks rs a h)
-      attribute_kept a r h = alone r h
-
-      has_entry_kept : (a : Text) (r : Tree) (b : Bool) (o : Option Tree) → calls_among slots passes r ≡ true → IsKept (has_entry_answer a r b o)
+      has_entry_kept : (a : Text) (r : Tree) (b : Bool) (o : Option Tree) → all_call_among slots passes (a_tree r no_trees) ≡ true → IsKept (has_entry_answer a r b o)
       has_entry_kept a r true (Some t) h = tt
       has_entry_kept a r true None h = tt
-      has_entry_kept a r false o h = alone r h
-
-      has_kept : (a : Text) (r : Tree) → calls_among slots passes r ≡ true → IsKept (has_answer a r)
-      has_kept a (Apply (MakeRecord ks) rs) h = has_entry_kept a (Apply (MakeRecord ks) rs) (are_projectable rs) (found_tree ks rs a) h
-      has_kept a r h = alone r h
-
-      is_kept : (ty : Name) (r : Tree) → calls_among slots passes r ≡ true → IsKept (is_answer ty r)
-      is_kept ty (Unknown n (Some (EntityType u))) h = tt
-      is_kept ty r h = alone r h
+      has_entry_kept a r false o h = h
 
       equal_kept : (b : Bool) (r s : Tree) → all_call_among slots passes (a_tree r (a_tree s no_trees)) ≡ true → IsKept (equal_answer b r s)
       equal_kept true r s h = tt
       equal_kept false r s h = h
 
       left_kept : (o : Operator) (rs : Trees) → calls_none_but passes o ≡ true → all_call_among slots passes rs ≡ true → IsKept (residual_answer facts holds o rs)
-      left_kept (GetAttr a) (a_tree r no_trees) c h = attribute_kept a r (the_one r h)
-      left_kept (HasAttr a) (a_tree r no_trees) c h = has_kept a r (the_one r h)
-      left_kept (tree.Is ty) (a_tree r no_trees) c h = is_kept ty r (the_one r h)
+      left_kept (GetAttr a) (a_tree (Apply (MakeRecord ks) rs) no_trees) c h =
+          let there = (and_parts (all_call_among slots passes rs) true h).0 in
+          entry_kept a (Apply (MakeRecord ks) rs) (are_projectable rs) (found_tree ks rs a) h (found_passes ks rs a there)
+      left_kept (GetAttr a) (a_tree r no_trees) c h = h
+      left_kept (HasAttr a) (a_tree (Apply (MakeRecord ks) rs) no_trees) c h = has_entry_kept a (Apply (MakeRecord ks) rs) (are_projectable rs) (found_tree ks rs a) h
+      left_kept (HasAttr a) (a_tree r no_trees) c h = h
+      left_kept (tree.Is ty) (a_tree (Unknown n (Some (EntityType u))) no_trees) c h = tt
+      left_kept (tree.Is ty) (a_tree r no_trees) c h = h
       left_kept Equal (a_tree r (a_tree s no_trees)) c h = equal_kept (types_differ (stated_type r) (stated_type s)) r s h
       left_kept o rs c h = and_from (calls_none_but passes o) (all_call_among slots passes rs) c h
 

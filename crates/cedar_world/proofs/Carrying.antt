@@ -1,27 +1,23 @@
 -- Telling more values carries on what is settled also where slots are no longer bound.
 use Rattle.std.proofs.Common.{◌≡◌, Bool, true, false, Option, Some, None, refl, ap}
-use Rattle.cedar_language.specs.Uid.{Text, Uid}
-use Rattle.cedar_language.specs.Tree.{Context, Operator, GetAttr, HasAttr, MakeRecord, Tree, Lit, Var, Unknown, Apply, Trees, no_trees, a_tree}
+use Rattle.cedar_language.specs.Uid.{Text}
+use Rattle.cedar_language.specs.Tree.{Context, Operator, GetAttr, HasAttr, MakeRecord, Tree, Apply, Trees, no_trees, a_tree}
 use Rattle.cedar_language.specs.Value.{no_values}
 use Rattle.cedar_language.specs.Facts.{Facts}
-use Rattle.cedar_language.specs.Meaning.{Slots, slot_outcome}
-use Rattle.cedar_partial_evaluation.specs.Settling.{kindless, Below, LeafSettlings}
+use Rattle.cedar_language.specs.Meaning.{Slots}
 use Rattle.cedar_partial_evaluation.specs.MadeAgain.{HoldsMade}
-use Rattle.cedar_partial_evaluation.specs.Partial.{Answers, AllEvaluated, SomeResiduals, SomeFailed, answer_of, and_next, are_projectable, built_answer, projected_in, all_projected_in, found_tree, entry_answer, attribute_answer, residual_answer, apply_answer}
-use Rattle.cedar_partial_evaluation.specs.Fair.{read}
+use Rattle.cedar_partial_evaluation.specs.Partial.{Answers, AllEvaluated, SomeResiduals, and_next, are_projectable, built_answer, projected_in, all_projected_in, found_tree, entry_answer, residual_answer, apply_answer}
 use Rattle.cedar_partial_evaluation.specs.Linking.{no_slots}
 use Rattle.cedar_partial_evaluation.specs.Question.{Question, Told, variable_held, settled_of, held_of, Extends, AreMadeTold, IsAccepted, TellingCarries}
 use Rattle.cedar_partial_evaluation.specs.Seam.{Carries}
 use Rattle.cedar_partial_evaluation.specs.Unbound.{unbound}
 use Rattle.cedar_partial_evaluation.specs.UnboundSeam.{CarriesUnbound}
+use Rattle.cedar_partial_evaluation.proofs.Question.{slot_below}
 
 -- what is left of a record is projected alike whether slots are bound or not
 module _ (facts : Facts) (q : Question) (slots : Slots) (told : Told) where
   mutual
     projected_same : (t : Tree) → projected_in facts (held_of facts q no_slots told) t ≡ projected_in facts (held_of facts q slots told) t
-    projected_same (Lit l) = refl
-    projected_same (Var v) = refl
-    projected_same (Unknown n ty) = refl
     projected_same (Apply op ts) = ap (built_answer facts op) (all_projected_same ts)
     projected_same _ = refl
 
@@ -34,22 +30,14 @@ module _ (facts : Facts) (q : Question) (slots : Slots) (told : Told) where
   entry_same a r true (Some t) = projected_same t
   entry_same a r false (Some t) = refl
 
-  attribute_same : (a : Text) (r : Tree) → attribute_answer facts (held_of facts q no_slots told) a r ≡ attribute_answer facts (held_of facts q slots told) a r
-  attribute_same a (Apply (MakeRecord ks) rs) = entry_same a (Apply (MakeRecord ks) rs) (are_projectable rs) (found_tree ks rs a)
-  attribute_same a _ = refl
-
   left_same : (op : Operator) (rs : Trees) → residual_answer facts (held_of facts q no_slots told) op rs ≡ residual_answer facts (held_of facts q slots told) op rs
-  left_same (GetAttr a) (a_tree r no_trees) = attribute_same a r
+  left_same (GetAttr a) (a_tree (Apply (MakeRecord ks) rs) no_trees) = entry_same a (Apply (MakeRecord ks) rs) (are_projectable rs) (found_tree ks rs a)
+  left_same (GetAttr a) (a_tree r no_trees) = refl
   left_same _ _ = refl
 
   apply_same : (op : Operator) (ps : Answers) → apply_answer facts (held_of facts q no_slots told) op ps ≡ apply_answer facts (held_of facts q slots told) op ps
-  apply_same op (AllEvaluated vs) = refl
   apply_same op (SomeResiduals rs) = left_same op rs
-  apply_same op (SomeFailed k) = refl
-
-slot_below : (facts : Facts) (around : LeafSettlings) (o : Option Uid) → Below (kindless (slot_outcome o)) (read facts around (answer_of (slot_outcome o)))
-slot_below facts around (Some u) = refl
-slot_below facts around None = refl
+  apply_same op _ = refl
 
 pub carries_unbound : TellingCarries → (facts : Facts) → HoldsMade facts → (q : Question) (slots : Slots) (told later : Told) → Extends told later → AreMadeTold facts told →
     IsAccepted facts told q.context → IsAccepted facts later q.context → CarriesUnbound facts (settled_of facts q slots later) (held_of facts q slots told)

@@ -1,9 +1,9 @@
 -- A context is refused where some part of it errs, all of whose names are told.
-use Rattle.std.proofs.Common.{◌≡◌, ◌⊎◌, inl, inr, Bool, true, false, not, ◌&&◌, ◌||◌, Option, Some, None, is_some, refl, ◌∙◌, ap}
+use Rattle.std.proofs.Common.{◌≡◌, inl, inr, Bool, true, false, not, ◌&&◌, Option, Some, None, is_some, refl, ◌∙◌, ap}
 use Rattle.std.proofs.lemmas.Bool.{and_parts, false_from_ne_true, not-true, or_cases, or_from, or_left, or_parts, or_right}
 use Rattle.std.specs.FinMap as finite
 use Rattle.cedar_language.specs.Uid.{Text}
-use Rattle.cedar_language.specs.Tree.{Operator, MakeSet, MakeRecord, Call, Tree, Lit, Var, Slot, Unknown, If, And, Or, Apply, Trees, no_trees, a_tree, ValueType}
+use Rattle.cedar_language.specs.Tree.{Operator, MakeSet, MakeRecord, Call, Tree, Lit, Var, Slot, Unknown, Apply, Trees, no_trees, a_tree, ValueType}
 use Rattle.cedar_language.specs.Value.{Value, Kind, Outcome, Gives, Fails}
 use Rattle.cedar_language.specs.Facts.{Facts}
 use Rattle.cedar_language.specs.Meaning.{meaning}
@@ -11,16 +11,18 @@ use Rattle.cedar_language.specs.Operators.{applied}
 use Rattle.cedar_language.specs.Restricted.{is_restricted, are_restricted}
 use Rattle.cedar_partial_evaluation.specs.DataErrors.{IsPart, whole, inside, IsPartOfOne, of_first, of_later, FailsOnceTold, HasErringPart, DataErrsInParts}
 use Rattle.cedar_partial_evaluation.specs.Filling.{TellsEach, names_told}
-use Rattle.cedar_partial_evaluation.specs.Partial.{Answer, Evaluated, ResidualTree, Failed, Answers, AllEvaluated, SomeFailed, answer_of, and_next, apply_answer, partial_in, all_partial_in}
+use Rattle.cedar_partial_evaluation.specs.Partial.{Answer, Evaluated, Failed, Answers, AllEvaluated, SomeFailed, answer_of, and_next, apply_answer, partial_in, all_partial_in}
 use Rattle.cedar_partial_evaluation.specs.Question.{value_settled, value_held, name_settled, name_held, settled_names, held_names}
 use Rattle.cedar_partial_evaluation.specs.Settling.{Settling, Open, Errs, Is, Settlings, SomeOpen, SomeErrs, AllAre, kindless, and_more, apply_settled, settled_in, all_settled_in}
-use Rattle.cedar_partial_evaluation.specs.Unknowns.{fits, EachUnknownOf}
+use Rattle.cedar_partial_evaluation.specs.Unknowns.{fits, of_unknowns}
+use Rattle.cedar_partial_evaluation.proofs.Passing.{each_weaker}
 use Rattle.cedar_world.specs.Asking.{WithEntries, Told}
 use Rattle.cedar_grammar.specs.UnknownCalls.{calls_unknown, holds_call, hold_call}
 use Rattle.cedar_world.specs.Bodies.{some_name, some_name_of, some_part, some_part_of}
 use Rattle.cedar_world.specs.Setting.{functions_alone}
 use Rattle.cedar_world.specs.Values.{fails, holds_open, context_errs}
 use Rattle.cedar_world.specs.ContextErrors.{ContextsErrInParts}
+use Rattle.cedar_world.proofs.Names.{FailsTest, each_fails, none_passes}
 
 -- ---- parts that pass a test
 
@@ -44,31 +46,20 @@ module _ (test : Tree → Bool) where
   abbrev OnePassing : Trees → Type 0
   OnePassing ts = (p : Tree) × IsPartOfOne p ts × (test p ≡ true)
 
-  first_passing : (t : Tree) (ts : Trees) → Passing t → OnePassing (a_tree t ts)
-  first_passing t ts (p, i, h) = (p, of_first i, h)
-
-  later_passing : (t : Tree) (ts : Trees) → OnePassing ts → OnePassing (a_tree t ts)
-  later_passing t ts (p, i, h) = (p, of_later i, h)
-
-  below_passing : (op : Operator) (ts : Trees) → OnePassing ts → Passing (Apply op ts)
-  below_passing op ts (p, i, h) = (p, inside i, h)
-
-  either_passing : {A B C : Type 0} → (A → C) → (B → C) → A ⊎ B → C
-  either_passing f g (inl a) = f a
-  either_passing f g (inr b) = g b
-
   mutual
     passing : (t : Tree) → some_part test t ≡ true → Passing t
-    passing (Apply op ts) h =
-        either_passing (λ (e : test (Apply op ts) ≡ true). (Apply op ts, whole, e)) (λ (e : some_part_of test ts ≡ true). below_passing op ts (one_passing ts e))
-        (or_cases (test (Apply op ts)) (some_part_of test ts) h)
+    passing (Apply op ts) h = elim (or_cases (test (Apply op ts)) (some_part_of test ts) h) [
+      | inl e ↦ (Apply op ts, whole, e)
+      | inr e ↦ let (p, i, k) = one_passing ts e in (p, inside i, k)
+    ]
     passing t h = (t, whole, h)
 
     one_passing : (ts : Trees) → some_part_of test ts ≡ true → OnePassing ts
     one_passing no_trees h = cc
-    one_passing (a_tree t ts) h =
-        either_passing (λ (e : some_part test t ≡ true). first_passing t ts (passing t e)) (λ (e : some_part_of test ts ≡ true). later_passing t ts (one_passing ts e))
-        (or_cases (some_part test t) (some_part_of test ts) h)
+    one_passing (a_tree t ts) h = elim (or_cases (some_part test t) (some_part_of test ts) h) [
+      | inl e ↦ let (p, i, k) = passing t e in (p, of_first i, k)
+      | inr e ↦ let (p, i, k) = one_passing ts e in (p, of_later i, k)
+    ]
 
 -- ---- calls for an unknown
 
@@ -94,60 +85,26 @@ module _ (told : Told) where
   value_there (Some v) h = (v, refl)
   value_there None h = cc
 
-  mutual
-    each_told : (t : Tree) → some_name untold t ≡ false → TellsEach told t
-    each_told (Lit l) h = tt
-    each_told (Var v) h = tt
-    each_told (Slot s) h = tt
-    each_told (Unknown n ty) h = value_there (finite.get told n) h
-    each_told (If t y n) h =
-        let (ht, rest) = or_parts (some_name untold t) (some_name untold y || some_name untold n) h in
-        let (hy, hn) = or_parts (some_name untold y) (some_name untold n) rest in
-        (each_told t ht, each_told y hy, each_told n hn)
-    each_told (And l r) h = let (hl, hr) = or_parts (some_name untold l) (some_name untold r) h in (each_told l hl, each_told r hr)
-    each_told (Or l r) h = let (hl, hr) = or_parts (some_name untold l) (some_name untold r) h in (each_told l hl, each_told r hr)
-    each_told (Apply op ts) h = each_of_told ts h
+  each_told : (t : Tree) → some_name untold t ≡ false → TellsEach told t
+  each_told t h = each_weaker (of_unknowns (FailsTest untold)) (of_unknowns IsTold) (λ v k. k) (λ s k. k) (λ n ty k. value_there (finite.get told n) k) t (each_fails untold t h)
 
-    each_of_told : (ts : Trees) → some_name_of untold ts ≡ false → EachUnknownOf IsTold ts
-    each_of_told no_trees h = tt
-    each_of_told (a_tree t ts) h = let (ht, hts) = or_parts (some_name untold t) (some_name_of untold ts) h in (each_told t ht, each_of_told ts hts)
-
-  mutual
-    none_untold : (t : Tree) → TellsEach told t → some_name untold t ≡ false
-    none_untold (Lit l) h = refl
-    none_untold (Var v) h = refl
-    none_untold (Slot s) h = refl
-    none_untold (Unknown n ty) (v, e) = ap (λ (o : Option Value). not (is_some o)) e
-    none_untold (If t y n) (ht, hy, hn) =
-        or_from (some_name untold t) (some_name untold y || some_name untold n) (none_untold t ht)
-        (or_from (some_name untold y) (some_name untold n) (none_untold y hy) (none_untold n hn))
-    none_untold (And l r) (hl, hr) = or_from (some_name untold l) (some_name untold r) (none_untold l hl) (none_untold r hr)
-    none_untold (Or l r) (hl, hr) = or_from (some_name untold l) (some_name untold r) (none_untold l hl) (none_untold r hr)
-    none_untold (Apply op ts) h = none_of_untold ts h
-
-    none_of_untold : (ts : Trees) → EachUnknownOf IsTold ts → some_name_of untold ts ≡ false
-    none_of_untold no_trees h = refl
-    none_of_untold (a_tree t ts) (h, k) = or_from (some_name untold t) (some_name_of untold ts) (none_untold t h) (none_of_untold ts k)
+  none_untold : (t : Tree) → TellsEach told t → some_name untold t ≡ false
+  none_untold t each =
+      none_passes untold t (each_weaker (of_unknowns IsTold) (of_unknowns (FailsTest untold)) (λ v k. k) (λ s k. k) (λ n ty k. ap (λ (o : Option Value). not (is_some o)) k.1) t each)
 
   closed : (p : Tree) → holds_call p ≡ false → TellsEach told p → holds_open untold p ≡ false
-  closed (Apply op ts) h each = or_from (some_name_of untold ts) (hold_call ts) (none_of_untold ts each) (or_parts (calls_unknown op) (hold_call ts) h).1
+  closed (Apply op ts) h each = or_from (some_name_of untold ts) (hold_call ts) (none_untold (Apply op ts) each) (or_parts (calls_unknown op) (hold_call ts) h).1
   closed (Lit l) h each = refl
   closed (Var v) h each = refl
   closed (Slot s) h each = refl
-  closed (Unknown n ty) h each = none_untold (Unknown n ty) each
-  closed (If t y n) h each = none_untold (If t y n) each
-  closed (And l r) h each = none_untold (And l r) each
-  closed (Or l r) h each = none_untold (Or l r) each
+  closed p h each = none_untold p each
 
   told_where_closed : (p : Tree) → holds_open untold p ≡ false → TellsEach told p
-  told_where_closed (Apply op ts) h = each_of_told ts (or_parts (some_name_of untold ts) (hold_call ts) h).0
+  told_where_closed (Apply op ts) h = each_told (Apply op ts) (or_parts (some_name_of untold ts) (hold_call ts) h).0
   told_where_closed (Lit l) h = tt
   told_where_closed (Var v) h = tt
   told_where_closed (Slot s) h = tt
-  told_where_closed (Unknown n ty) h = each_told (Unknown n ty) h
-  told_where_closed (If t y n) h = each_told (If t y n) h
-  told_where_closed (And l r) h = each_told (And l r) h
-  told_where_closed (Or l r) h = each_told (Or l r) h
+  told_where_closed p h = each_told p h
 
   module _ (facts : Facts) where
     -- ---- parts that err
@@ -199,23 +156,20 @@ module _ (told : Told) where
     name_shows None n ty = tt
 
     behind_fails : (p : Answer) (k : Kind) → (j : Kind) × (and_next facts p (SomeFailed k) ≡ SomeFailed j)
-    behind_fails (Evaluated v) k = (k, refl)
-    behind_fails (ResidualTree r) k = (k, refl)
     behind_fails (Failed j) k = (j, refl)
+    behind_fails _ k = (k, refl)
 
     later_shows : (p : Answer) (ps : Answers) → ShowAll SomeErrs ps → ShowAll SomeErrs (and_next facts p ps)
     later_shows p ps (k, e) = let (j, f) = behind_fails p k in (j, ap (and_next facts p) e ∙ f)
 
     next_shows : (x : Settling) (xs : Settlings) (p : Answer) (ps : Answers) → Shows x p → ShowAll xs ps → ShowAll (and_more x xs) (and_next facts p ps)
-    next_shows Open SomeErrs p ps h i = later_shows p ps i
-    next_shows Errs SomeErrs p ps h i = later_shows p ps i
-    next_shows (Is v) SomeErrs p ps h i = later_shows p ps i
     next_shows Open SomeOpen p ps h i = tt
     next_shows Open (AllAre vs) p ps h i = tt
     next_shows Errs SomeOpen p ps (k, e) i = (k, ap (λ (q : Answer). and_next facts q ps) e)
     next_shows Errs (AllAre vs) p ps (k, e) i = (k, ap (λ (q : Answer). and_next facts q ps) e)
     next_shows (Is v) SomeOpen p ps h i = tt
     next_shows (Is v) (AllAre vs) p ps h i = λ j. and_next facts (h j) (i j)
+    next_shows _ SomeErrs p ps h i = later_shows p ps i
 
     apply_shows : (op : Operator) (xs : Settlings) (ps : Answers) → ShowAll xs ps → Shows (apply_settled facts op xs) (apply_answer facts (held_names told) op ps)
     apply_shows op SomeOpen ps h = tt
@@ -238,9 +192,8 @@ module _ (told : Told) where
           next_shows (settled_in facts (settled_names told) t) (all_settled_in facts (settled_names told) ts) (partial_in facts (held_names told) t) (all_partial_in facts (held_names told) ts) (shows t rt) (all_show ts rts)
 
     refused_where_errs : (x : Settling) (p : Answer) → Shows x p → x ≡ Errs → (k : Kind) × (p ≡ Failed k)
-    refused_where_errs Open p h e = cc
     refused_where_errs Errs p h e = h
-    refused_where_errs (Is v) p h e = cc
+    refused_where_errs _ p h e = cc
 
     -- data that is not refused doesn't err
     never_errs : (t : Tree) → is_restricted t ≡ true → ((k : Kind) → partial_in facts (held_names told) t ≡ Failed k → ⊥) → settled_in facts (settled_names told) t ≡ Errs → ⊥

@@ -2,13 +2,14 @@
 use Rattle.std.proofs.Common.{◌≡◌, inl, true, false, Some, sym, ◌∙◌, ap, subst}
 use Rattle.std.specs.FinMap as finite
 use Rattle.cedar_language.specs.Uid.{Text}
-use Rattle.cedar_language.specs.Tree.{Tree, Lit, Var, Slot, Unknown, If, And, Or, Apply, Trees, no_trees, a_tree}
-use Rattle.cedar_language.specs.Value.{Value, Kind, Outcome, Gives, Fails}
+use Rattle.cedar_language.specs.Tree.{Tree}
+use Rattle.cedar_language.specs.Value.{Value, Kind, Outcome}
 use Rattle.cedar_language.specs.Facts.{Facts}
 use Rattle.cedar_language.specs.Meaning.{Slots, meaning}
 use Rattle.cedar_language.specs.Answering.{Standing, Erring, is_residual}
 use Rattle.cedar_language.specs.Authorization.{Known, request_at, standing_of}
-use Rattle.cedar_partial_evaluation.specs.Unknowns.{EachUnknownOf}
+use Rattle.cedar_partial_evaluation.specs.Unknowns.{of_unknowns}
+use Rattle.cedar_partial_evaluation.proofs.Passing.{each_weaker}
 use Rattle.cedar_partial_evaluation.specs.Settling.{kindless, settled_in}
 use Rattle.cedar_partial_evaluation.specs.MadeAgain.{HoldsMade}
 use Rattle.cedar_partial_evaluation.specs.Partial.{Answer, answer_of, partial_in}
@@ -16,7 +17,7 @@ use Rattle.cedar_partial_evaluation.specs.Fair.{read}
 use Rattle.cedar_partial_evaluation.specs.Prompt.{ErrsAs}
 use Rattle.cedar_partial_evaluation.specs.Linking.{no_slots}
 use Rattle.cedar_partial_evaluation.specs.Question.{Question, Told, settled_of, held_of, Extends, AreMadeTold, IsAccepted, TellingCarries}
-use Rattle.cedar_partial_evaluation.specs.Filling.{GivesEach, GivesEachOf, TellsEach, IsFilling, request_filled, filled, ErrsEverywhere, AnswersAreFair, AnswersArePrompt, FilledIsMeant}
+use Rattle.cedar_partial_evaluation.specs.Filling.{IsGiven, GivesEach, TellsEach, IsFilling, request_filled, filled, ErrsEverywhere, AnswersAreFair, AnswersArePrompt, FilledIsMeant}
 use Rattle.cedar_partial_evaluation.specs.Mentions.{mentions_only, NamesDontMatter, WithoutUnknowns}
 use Rattle.cedar_partial_evaluation.specs.Early.{standing_of_answer, AllToldIsKnown}
 use Rattle.cedar_partial_evaluation.specs.Seam.{ResidualsSettle}
@@ -29,8 +30,9 @@ use Rattle.cedar_world.specs.First.{IsData, NamesNoUnknown}
 use Rattle.cedar_world.specs.Sound.{Becomes, ErrsOrErred}
 use Rattle.cedar_world.specs.Again.{NoneErred, EarlyStaysSound}
 use Rattle.cedar_world.proofs.Fillings.{filling_there, made_at_first, extends_nothing}
-use Rattle.cedar_world.proofs.HeldMade.{held_made}
-use Rattle.cedar_world.proofs.LaterStandings.{result_standing, below_closed, answer_becomes, prompt_stands, never_residual}
+use Rattle.cedar_partial_evaluation.proofs.Question.{held_made}
+use Rattle.cedar_world.proofs.Standings.{not_residual, settled_as}
+use Rattle.cedar_world.proofs.LaterStandings.{result_standing, below_closed, answer_becomes, prompt_stands}
 
 -- ---- what a first answer is read as
 
@@ -42,17 +44,12 @@ reads_filled fairly meant facts made q slots filling known fills t gives =
     ∙ fairly facts made q slots finite.empty filling known (extends_nothing filling) (made_at_first facts) fills t gives
 
 -- once more is told it is read as what is settled then
-pub reads_later : TellingCarries → ResidualsSettle → (facts : Facts) → HoldsMade facts → (q : Question) → IsData q.context → (slots : Slots) (told later : Told) → Extends told later → AreMadeTold facts told →
+pub reads_later : TellingCarries → ResidualsSettle → (facts : Facts) → HoldsMade facts → (q : Question) (slots : Slots) (told later : Told) → Extends told later → AreMadeTold facts told →
     IsAccepted facts told q.context → IsAccepted facts later q.context → (t : Tree) (o : Outcome) → settled_in facts (settled_of facts q slots later) t ≡ kindless o →
     kindless o ≡ read facts (settled_of facts q slots later) (partial_in facts (held_of facts q slots told) t)
-reads_later carries settle facts made q of_data slots told later extends are_made now then t o is =
+reads_later carries settle facts made q slots told later extends are_made now then t o is =
     below_closed (settled_in facts (settled_of facts q slots later) t) _ o is
-    (settle facts made (settled_of facts q slots later) (held_of facts q slots told) (carries facts made q slots told later extends are_made now then) (held_made facts made told are_made q slots of_data) t)
-
--- a result to which a tree settles is what is settled of it
-pub settled_as : SettlingIsOne → (facts : Facts) (q : Question) (told : Told) (t : Tree) (result : Outcome) → Settles facts q told t result → settled_in facts (settled_of facts q no_slots told) t ≡ kindless result
-settled_as one facts q told t (Gives v) h = h
-settled_as one facts q told t (Fails k) h = one.errs facts q no_slots told t k h
+    (settle facts made (settled_of facts q slots later) (held_of facts q slots told) (carries facts made q slots told later extends are_made now then) (held_made facts made q slots told are_made) t)
 
 -- a condition in which no name stands means one thing whatever stands for names
 pub means_known : NamesDontMatter → (facts : Facts) (known : Known) (filling : Told) (t : Tree) → mentions_only (λ v. true) true t ≡ true → meaning facts (request_filled known no_slots filling) t ≡ means facts known t
@@ -60,20 +57,8 @@ means_known nameless facts known filling t names = nameless facts (request_fille
 
 -- ---- nothing is left once all is told
 
-mutual
-  tells : (told : Told) (t : Tree) → GivesEach told t → TellsEach told t
-  tells told (Lit l) g = tt
-  tells told (Var v) g = tt
-  tells told (Slot s) g = tt
-  tells told (Unknown n ty) (v, is, fit) = (v, is)
-  tells told (If t y n) (g, h, i) = (tells told t g, tells told y h, tells told n i)
-  tells told (And l r) (g, h) = (tells told l g, tells told r h)
-  tells told (Or l r) (g, h) = (tells told l g, tells told r h)
-  tells told (Apply op ts) g = all_tell told ts g
-
-  all_tell : (told : Told) (ts : Trees) → GivesEachOf told ts → EachUnknownOf (λ n ty. (v : Value) × (finite.get told n ≡ Some v)) ts
-  all_tell told no_trees g = tt
-  all_tell told (a_tree t ts) (g, h) = (tells told t g, all_tell told ts h)
+tells : (told : Told) (t : Tree) → GivesEach told t → TellsEach told t
+tells told = each_weaker (of_unknowns (IsGiven told)) (of_unknowns (λ n ty. (v : Value) × (finite.get told n ≡ Some v))) (λ v k. k) (λ s k. k) (λ n ty k. (k.0, k.1))
 
 -- ---- the law
 
@@ -98,7 +83,7 @@ module _ (fairly : AnswersAreFair) (meant : FilledIsMeant) (promptly : AnswersAr
     becomes_settled : (later : Told) → IsAccepted facts later q.context → (s : PolicySyntax) (result : Outcome) → Settles facts q later (condition s) result → Becomes (standing_of_answer (first s)) (standing_of result)
     becomes_settled later then s result settles =
         answer_becomes facts (settled_of facts q no_slots later) (first s) result
-        (reads_later carries settle facts made q of_data no_slots finite.empty later (extends_nothing later) (made_at_first facts) accepted then (condition s) result
+        (reads_later carries settle facts made q no_slots finite.empty later (extends_nothing later) (made_at_first facts) accepted then (condition s) result
         (settled_as one facts q later (condition s) result settles))
 
     abbrev IsClosed : PolicySyntax → Outcome → Standing → Type 0
@@ -118,7 +103,7 @@ module _ (fairly : AnswersAreFair) (meant : FilledIsMeant) (promptly : AnswersAr
         at_last facts made q no_slots finite.empty request (made_at_first facts) fills (condition s) (tells finite.empty (condition s) (given finite.empty (λ v. true) true (condition s) names))
         ∙ ap answer_of (means_known nameless facts request finite.empty (condition s) names) in
         let stands : standing_of_answer (first s) ≡ standing_of (means facts request (condition s)) = ap standing_of_answer is ∙ result_standing (means facts request (condition s)) in
-        (ap is_residual stands ∙ never_residual (means facts request (condition s)), λ k h. inl (k, stands ∙ h))
+        (ap is_residual stands ∙ not_residual (means facts request (condition s)), λ k h. inl (k, stands ∙ h))
 
   pub early_stays_sound : EarlyStaysSound
   early_stays_sound by world facts q are made closed of_data accepted = record {

@@ -13,37 +13,34 @@ use Rattle.cedar_partial_evaluation.specs.Filling.{names_told, FillsContext, IsF
 use Rattle.cedar_partial_evaluation.specs.Question.{Entries, NoContext, WithEntries, Question, Told, is_restricted, are_restricted, Extends, AreMadeTold}
 use Rattle.cedar_world.proofs.Parts.{not_none}
 
+call_same : (facts others : Facts) → ((name : Name) → facts.function name ≡ others.function name) → (f : Name) (os : Outcomes) → apply_of facts (Call f) os ≡ apply_of others (Call f) os
+call_same facts others same f (GivesAll vs) = rw (same f) refl
+call_same facts others same f (OneFails k) = refl
+
+made_same : (facts others : Facts) (os : Outcomes) → (apply_of facts MakeSet os ≡ apply_of others MakeSet os) × ((ks : List Text) → apply_of facts (MakeRecord ks) os ≡ apply_of others (MakeRecord ks) os)
+made_same facts others (GivesAll vs) = (refl, λ ks. refl)
+made_same facts others (OneFails k) = (refl, λ ks. refl)
+
+-- data means the same whatever entities are held
 module _ (facts others : Facts) (same : (name : Name) → facts.function name ≡ others.function name) (request : Request) where
-  pub call_same : (f : Name) (os : Outcomes) → apply_of facts (Call f) os ≡ apply_of others (Call f) os
-  call_same f (GivesAll vs) = rw (same f) refl
-  call_same f (OneFails k) = refl
-
-  pub set_same : (os : Outcomes) → apply_of facts MakeSet os ≡ apply_of others MakeSet os
-  set_same (GivesAll vs) = refl
-  set_same (OneFails k) = refl
-
-  pub record_same : (ks : List Text) (os : Outcomes) → apply_of facts (MakeRecord ks) os ≡ apply_of others (MakeRecord ks) os
-  record_same ks (GivesAll vs) = refl
-  record_same ks (OneFails k) = refl
-
   mutual
-    data_means : (t : Tree) → is_restricted t ≡ true → meaning facts request t ≡ meaning others request t
-    data_means (Lit l) h = refl
-    data_means (Unknown n ty) h = refl
-    data_means (Apply MakeSet ts) h = set_same (meanings facts request ts) ∙ ap (apply_of others MakeSet) (all_data_mean ts h)
-    data_means (Apply (MakeRecord ks) ts) h = record_same ks (meanings facts request ts) ∙ ap (apply_of others (MakeRecord ks)) (all_data_mean ts h)
-    data_means (Apply (Call f) ts) h = call_same f (meanings facts request ts) ∙ ap (apply_of others (Call f)) (all_data_mean ts h)
-    data_means _ h = cc
+    pub data_same : (t : Tree) → is_restricted t ≡ true → meaning facts request t ≡ meaning others request t
+    data_same (Lit l) h = refl
+    data_same (Unknown n ty) h = refl
+    data_same (Apply MakeSet ts) h = (made_same facts others (meanings facts request ts)).0 ∙ ap (apply_of others MakeSet) (all_data_same ts h)
+    data_same (Apply (MakeRecord ks) ts) h = (made_same facts others (meanings facts request ts)).1 ks ∙ ap (apply_of others (MakeRecord ks)) (all_data_same ts h)
+    data_same (Apply (Call f) ts) h = call_same facts others same f (meanings facts request ts) ∙ ap (apply_of others (Call f)) (all_data_same ts h)
+    data_same _ h = cc
 
-    all_data_mean : (ts : Trees) → are_restricted ts ≡ true → meanings facts request ts ≡ meanings others request ts
-    all_data_mean no_trees h = refl
-    all_data_mean (a_tree t ts) h = rw (data_means t (and_parts (is_restricted t) (are_restricted ts) h).0, all_data_mean ts (and_parts (is_restricted t) (are_restricted ts) h).1) refl
+    all_data_same : (ts : Trees) → are_restricted ts ≡ true → meanings facts request ts ≡ meanings others request ts
+    all_data_same no_trees h = refl
+    all_data_same (a_tree t ts) h = let (ht, hts) = and_parts (is_restricted t) (are_restricted ts) h in rw (data_same t ht, all_data_same ts hts) refl
 
 module _ (facts others : Facts) (same : (name : Name) → facts.function name ≡ others.function name) where
   context_there : (c : Entries) (filling : Told) (w : Value) → FillsContext others c filling w → FillsContext facts c filling w
   context_there NoContext filling w h = h
   context_there (WithEntries ks ts) filling w (restricted, given, means_it) =
-      (restricted, given, data_means facts others same (names_told filling) (Apply (MakeRecord ks) ts) restricted ∙ means_it)
+      (restricted, given, data_same facts others same (names_told filling) (Apply (MakeRecord ks) ts) restricted ∙ means_it)
 
   pub filling_there : (q : Question) (filling : Told) (known : Known) → IsFilling others q filling known → IsFilling facts q filling known
   filling_there q filling known fills = record {
@@ -53,7 +50,7 @@ module _ (facts others : Facts) (same : (name : Name) → facts.function name �
     context = context_there q.context filling known.context fills.context;
   }
 
-nothing_told : (n : Text) (v : Value) → finite.get {R = text_cmp} finite.empty n ≢ Some v
+pub nothing_told : (n : Text) (v : Value) → finite.get {R = text_cmp} finite.empty n ≢ Some v
 nothing_told n v h = not_none v (sym (finite.get-empty text_cmp n) ∙ h)
 
 pub made_at_first : (facts : Facts) → AreMadeTold facts finite.empty

@@ -1,12 +1,12 @@
 -- What an evaluation answers, or leaves of a tree, is no higher than the tree may grow.
-use Rattle.std.proofs.Common.{◌≡◌, ◌≤◌, ◌+◌, ℕ, suc, max, Bool, true, false, cond, Option, Some, None, List, [], ◌∷◌, refl, sym, ◌∙◌, subst, arith, ℤ, ◌+ℤ◌, ◌-ℤ◌, ◌*ℤ◌, neg_ℤ, Ordering, codes}
+use Rattle.std.proofs.Common.{◌≡◌, ◌≤◌, ℕ, suc, max, Bool, true, false, cond, Option, Some, None, List, [], ◌∷◌, refl, sym, ◌∙◌, subst, arith, Ordering, codes}
 use Rattle.std.proofs.Math.Nat.{le-max_left, le-max_right, max-le}
 use Rattle.std.specs.Option.{option_map}
 use Rattle.std.specs.declared.cmp.Ordering.TheVariants as ordering
 use Rattle.cedar_language.specs.Uid.{Text, Name, Uid}
 use Rattle.cedar_language.specs.Tree as tree
-use Rattle.cedar_language.specs.Tree.{Boolean, Long, String, Entity, PatternElem, Operator, Not, Neg, IsEmpty, Equal, Less, LessEq, Add, Sub, Mul, In, Contains, ContainsAll, ContainsAny, GetTag, HasTag, GetAttr, HasAttr, HasPath, Like, MakeSet, MakeRecord, Call, Tree, Lit, Var, Slot, Unknown, If, And, Or, Apply, Trees, no_trees, a_tree, EntityType, Principal, Action, Resource, Context}
-use Rattle.cedar_language.specs.Value.{Value, Plain, SetOf, RecordOf, ExtensionOf, Values, no_values, a_value, Kind, TypeError, IntegerOverflow, Outcome, Gives, Fails}
+use Rattle.cedar_language.specs.Tree.{Boolean, String, Entity, Operator, Equal, Less, GetTag, GetAttr, HasAttr, MakeSet, MakeRecord, Call, Tree, Lit, Var, Slot, Unknown, If, And, Or, Apply, Trees, no_trees, a_tree, EntityType, Principal, Action, Resource, Context}
+use Rattle.cedar_language.specs.Value.{Value, Plain, SetOf, RecordOf, ExtensionOf, Values, no_values, a_value, Kind, Outcome, Gives, Fails}
 use Rattle.cedar_language.specs.Order.{same_text, rising, put, placed, value_cmp}
 use Rattle.cedar_language.specs.Facts.{Held, Function, Facts}
 use Rattle.cedar_language.specs.Constructing.{is_the_constructor, constructor_function, constructed, construction, longs_of, bytes_of}
@@ -14,7 +14,8 @@ use Rattle.cedar_language.specs.Height.{height, heights}
 use Rattle.cedar_language.specs.Operators as op
 use Rattle.cedar_language.specs.Operators.{found, applied, or_fails, called}
 use Rattle.cedar_partial_evaluation.specs.MadeAgain.{tree_of, trees_of}
-use Rattle.cedar_partial_evaluation.specs.Partial.{Answer, Evaluated, ResidualTree, Failed, Answers, AllEvaluated, SomeResiduals, SomeFailed, answer_of, best_effort, last_answer, and_answer, or_answer, if_answer, and_next, are_projectable, LeafAnswers, built_answer, projected_in, all_projected_in, found_tree, entry_answer, attribute_answer, has_entry_answer, has_answer, is_answer, stated_type, types_differ, equal_answer, residual_answer, apply_answer, partial_in, all_partial_in}
+use Rattle.cedar_partial_evaluation.specs.Partial.{Answer, Evaluated, ResidualTree, Failed, Answers, AllEvaluated, SomeResiduals, SomeFailed, answer_of, best_effort, last_answer, and_answer, or_answer, if_answer, and_next, are_projectable, LeafAnswers, built_answer, projected_in, all_projected_in, found_tree, entry_answer, has_entry_answer, stated_type, types_differ, equal_answer, residual_answer, apply_answer, partial_in, all_partial_in}
+use Rattle.cedar_world.proofs.OrdinaryErrors.{IsPlainly, applied_plain}
 use Rattle.cedar_world.specs.Heights.{value_height, value_heights, Heights, read_height, grown, all_grown, grown_answer, AreWithin, AnswersStayWithin}
 
 -- ---- values
@@ -29,9 +30,7 @@ value_of None = 0
 
 pub some_value : (v : Value) → 1 ≤ value_height v
 some_value (Plain l) = omega arith
-some_value (SetOf vs) = omega arith
-some_value (RecordOf ks vs) = omega arith
-some_value (ExtensionOf e) = omega arith
+some_value _ = omega arith
 
 first_high : (v : Value) (vs : Values) (n : ℕ) → value_heights (a_value v vs) ≤ n → value_height v ≤ n
 first_high v vs n h = omega (arith, le-max_left (value_height v) (value_heights vs))
@@ -70,104 +69,13 @@ found_step true v o n a b = a
 found_step false v o n a b = b
 
 found_high : (ks : List Text) (vs : Values) (a : Text) (n : ℕ) → value_heights vs ≤ n → value_of (found ks vs a) ≤ n
-found_high [] vs a n h = omega arith
-found_high (k ∷ ks) no_values a n h = omega arith
 found_high (k ∷ ks) (a_value v vs) a n h = found_step (same_text k a) v (found ks vs a) n (first_high v vs n h) (found_high ks vs a n (rest_high v vs n h))
+found_high _ _ a n h = omega arith
 
--- ---- operators that give a literal
-
-abbrev IsLow : Outcome → Type 0
-IsLow (Gives (Plain l)) = Unit {0}
-IsLow (Gives _) = ⊥
-IsLow (Fails k) = Unit {0}
-
-low : (o : Outcome) (n : ℕ) → IsLow o → value_in o ≤ suc n
+low : (o : Outcome) (n : ℕ) → IsPlainly o → value_in o ≤ suc n
 low (Gives (Plain l)) n h = omega arith
-low (Gives (SetOf vs)) n h = absurd h
-low (Gives (RecordOf ks vs)) n h = absurd h
-low (Gives (ExtensionOf e)) n h = absurd h
 low (Fails k) n h = omega arith
-
-cond_low : (b : Bool) (o p : Outcome) → IsLow o → IsLow p → IsLow (cond b o p)
-cond_low true o p h k = h
-cond_low false o p h k = k
-
-checked_low : (n : ℤ) → IsLow (op.checked n)
-checked_low n = cond_low (op.is_long n) (Gives (Plain (Long n))) (Fails IntegerOverflow) tt tt
-
-is_there_low : (o : Outcome) → IsLow (op.is_there o)
-is_there_low (Gives v) = tt
-is_there_low (Fails TypeError) = tt
-is_there_low (Fails _) = tt
-
-path_low : (facts : Facts) (as' : List Text) (o : Outcome) → IsLow (op.path_from facts as' o)
-path_low facts [] o = is_there_low o
-path_low facts (a ∷ as') (Gives v) = path_low facts as' (op.attribute facts a v)
-path_low facts (a ∷ as') (Fails k) = is_there_low (Fails k)
-
-not_low : (vs : Values) → IsLow (op.not_of vs)
-not_low (a_value (Plain (Boolean b)) no_values) = tt
-not_low _ = tt
-
-negated_low : (vs : Values) → IsLow (op.negated vs)
-negated_low (a_value (Plain (Long n)) no_values) = checked_low (neg_ℤ n)
-negated_low _ = tt
-
-empty_low : (vs : Values) → IsLow (op.is_empty vs)
-empty_low (a_value (SetOf no_values) no_values) = tt
-empty_low (a_value (SetOf (a_value v vs)) no_values) = tt
-empty_low _ = tt
-
-equal_low : (vs : Values) → IsLow (op.equal_of vs)
-equal_low (a_value x (a_value y no_values)) = tt
-equal_low _ = tt
-
-less_low : (vs : Values) → IsLow (op.less_of vs)
-less_low (a_value (Plain (Long x)) (a_value (Plain (Long y)) no_values)) = tt
-less_low (a_value (ExtensionOf x) (a_value (ExtensionOf y) no_values)) = cond_low (op.are_comparable x y) _ _ tt tt
-less_low _ = tt
-
-less_eq_low : (vs : Values) → IsLow (op.less_eq_of vs)
-less_eq_low (a_value (Plain (Long x)) (a_value (Plain (Long y)) no_values)) = tt
-less_eq_low (a_value (ExtensionOf x) (a_value (ExtensionOf y) no_values)) = cond_low (op.are_comparable x y) _ _ tt tt
-less_eq_low _ = tt
-
-arithmetic_low : (f : ℤ → ℤ → ℤ) (vs : Values) → IsLow (op.arithmetic f vs)
-arithmetic_low f (a_value (Plain (Long x)) (a_value (Plain (Long y)) no_values)) = checked_low (f x y)
-arithmetic_low f _ = tt
-
-within_low : (facts : Facts) (a : Uid) (o : Option (List Uid)) → IsLow (op.within_members facts a o)
-within_low facts a (Some bs) = tt
-within_low facts a None = tt
-
-in_low : (facts : Facts) (vs : Values) → IsLow (op.in_of facts vs)
-in_low facts (a_value (Plain (Entity a)) (a_value (Plain (Entity b)) no_values)) = tt
-in_low facts (a_value (Plain (Entity a)) (a_value (SetOf vs) no_values)) = within_low facts a (op.uids_in vs)
-in_low facts _ = tt
-
-contains_low : (vs : Values) → IsLow (op.contains_of vs)
-contains_low (a_value (SetOf ws) (a_value v no_values)) = tt
-contains_low _ = tt
-
-two_sets_low : (f : Values → Values → Bool) (vs : Values) → IsLow (op.of_two_sets f vs)
-two_sets_low f (a_value (SetOf vs) (a_value (SetOf ws) no_values)) = tt
-two_sets_low f _ = tt
-
-like_low : (ps : List PatternElem) (vs : Values) → IsLow (op.like_of ps vs)
-like_low ps (a_value (Plain (String s)) no_values) = tt
-like_low ps _ = tt
-
-is_low : (ty : Name) (vs : Values) → IsLow (op.is_of ty vs)
-is_low ty (a_value (Plain (Entity u)) no_values) = tt
-is_low ty _ = tt
-
-has_low : (facts : Facts) (a : Text) (vs : Values) → IsLow (op.has_of facts a vs)
-has_low facts a (a_value v no_values) = is_there_low (op.attribute facts a v)
-has_low facts a _ = tt
-
-has_path_low : (facts : Facts) (a : Text) (as' : List Text) (vs : Values) → IsLow (op.has_path_of facts a as' vs)
-has_path_low facts a as' (a_value v no_values) = path_low facts as' (op.attribute facts a v)
-has_path_low facts a as' _ = tt
+low _ n h = absurd h
 
 -- ---- values as trees
 
@@ -230,15 +138,6 @@ module _ (h : Heights) (limit : ℕ) (facts : Facts) (holds : LeafAnswers) (with
   attribute_high a (Plain (Entity u)) n l m = omega (arith, attribute_held_high u a (facts.entity u) refl (both_within limit (h.held a) (suc n) m).0, le-max_left (h.held a) (suc n))
   attribute_high a _ n l m = omega arith
 
-  attribute_of_high : (a : Text) (vs : Values) (n : ℕ) → value_heights vs ≤ n → max (h.held a) (suc n) ≤ limit → value_in (op.attribute_of facts a vs) ≤ max (h.held a) (suc n)
-  attribute_of_high a (a_value v no_values) n l m = attribute_high a v n (first_high v no_values n l) m
-  attribute_of_high a no_values n l m = omega arith
-  attribute_of_high a (a_value v (a_value w ws)) n l m = omega arith
-
-  tag_high : (vs : Values) (n : ℕ) → max h.tagged (suc n) ≤ limit → value_in (op.tag_of facts vs) ≤ max h.tagged (suc n)
-  tag_high (a_value (Plain (Entity u)) (a_value (Plain (String a)) no_values)) n m = omega (arith, tag_held_high u a (facts.entity u) refl (both_within limit h.tagged (suc n) m).0, le-max_left h.tagged (suc n))
-  tag_high _ n m = omega arith
-
   by_function : (f : Name) (b : Bool) → is_the_constructor f ≡ b → (o : Option Function) → facts.function f ≡ o → (vs : Values) (n : ℕ) → value_heights vs ≤ n → max (cond b 0 h.answered) (suc n) ≤ limit → value_in (called o vs) ≤ max (cond b 0 h.answered) (suc n)
   by_function f b is None e vs n l m = omega arith
   by_function f false is (Some g) e vs n l m =
@@ -254,33 +153,16 @@ module _ (h : Heights) (limit : ℕ) (facts : Facts) (holds : LeafAnswers) (with
       constructor_is : (g : Function) → facts.function f ≡ Some g → constructor_function ≡ g
       constructor_is g e = some_same constructor_function g (sym (within.constructor f is) ∙ e)
 
-  low_by : (o : Outcome) (r n : ℕ) → IsLow o → value_in o ≤ max r (suc n)
-  low_by o r n l = omega (arith, low o n l, le-max_right r (suc n))
-
   applied_high : (o : Operator) (vs : Values) (n : ℕ) → value_heights vs ≤ n → max (read_height h o) (suc n) ≤ limit → value_in (applied facts o vs) ≤ max (read_height h o) (suc n)
-  applied_high Not vs n l m = low_by (applied facts Not vs) 0 n (not_low vs)
-  applied_high Neg vs n l m = low_by (applied facts Neg vs) 0 n (negated_low vs)
-  applied_high IsEmpty vs n l m = low_by (applied facts IsEmpty vs) 0 n (empty_low vs)
-  applied_high Equal vs n l m = low_by (applied facts Equal vs) 0 n (equal_low vs)
-  applied_high Less vs n l m = low_by (applied facts Less vs) 0 n (less_low vs)
-  applied_high LessEq vs n l m = low_by (applied facts LessEq vs) 0 n (less_eq_low vs)
-  applied_high Add vs n l m = low_by (applied facts Add vs) 0 n (arithmetic_low (λ x y. x +ℤ y) vs)
-  applied_high Sub vs n l m = low_by (applied facts Sub vs) 0 n (arithmetic_low (λ x y. x -ℤ y) vs)
-  applied_high Mul vs n l m = low_by (applied facts Mul vs) 0 n (arithmetic_low (λ x y. x *ℤ y) vs)
-  applied_high In vs n l m = low_by (applied facts In vs) 0 n (in_low facts vs)
-  applied_high Contains vs n l m = low_by (applied facts Contains vs) 0 n (contains_low vs)
-  applied_high ContainsAll vs n l m = low_by (applied facts ContainsAll vs) 0 n (two_sets_low op.has_all vs)
-  applied_high ContainsAny vs n l m = low_by (applied facts ContainsAny vs) 0 n (two_sets_low op.has_some vs)
-  applied_high GetTag vs n l m = tag_high vs n m
-  applied_high HasTag vs n l m = low_by (applied facts HasTag vs) 0 n (is_there_low (op.tag_of facts vs))
-  applied_high (GetAttr a) vs n l m = attribute_of_high a vs n l m
-  applied_high (HasAttr a) vs n l m = low_by (applied facts (HasAttr a) vs) 0 n (has_low facts a vs)
-  applied_high (HasPath a as') vs n l m = low_by (applied facts (HasPath a as') vs) 0 n (has_path_low facts a as' vs)
-  applied_high (Like ps) vs n l m = low_by (applied facts (Like ps) vs) 0 n (like_low ps vs)
-  applied_high (tree.Is ty) vs n l m = low_by (applied facts (tree.Is ty) vs) 0 n (is_low ty vs)
+  applied_high GetTag (a_value (Plain (Entity u)) (a_value (Plain (String a)) no_values)) n l m =
+      omega (arith, tag_held_high u a (facts.entity u) refl (both_within limit h.tagged (suc n) m).0, le-max_left h.tagged (suc n))
+  applied_high GetTag _ n l m = omega arith
+  applied_high (GetAttr a) (a_value v no_values) n l m = attribute_high a v n (first_high v no_values n l) m
+  applied_high (GetAttr a) _ n l m = omega arith
   applied_high MakeSet vs n l m = omega (arith, rising_high vs n l, le-max_right 0 (suc n))
   applied_high (MakeRecord ks) vs n l m = omega (arith, l, le-max_right 0 (suc n))
   applied_high (Call f) vs n l m = by_function f (is_the_constructor f) refl (facts.function f) refl vs n l m
+  applied_high o vs n l m = omega (arith, low (applied facts o vs) n (applied_plain facts o vs tt), le-max_right (read_height h o) (suc n))
 
   -- ---- answers
 
@@ -300,50 +182,36 @@ module _ (h : Heights) (limit : ℕ) (facts : Facts) (holds : LeafAnswers) (with
 
   last_and_grows : (p : Answer) (n : ℕ) → grown_answer h p ≤ n → 1 ≤ n → grown_answer h (last_answer (And (Lit (Boolean true))) p) ≤ suc n
   last_and_grows (Evaluated (Plain (Boolean b))) n l m = omega arith
-  last_and_grows (Evaluated (Plain _)) n l m = omega arith
-  last_and_grows (Evaluated _) n l m = omega arith
   last_and_grows (ResidualTree r) n l m = omega (arith, l, m)
-  last_and_grows (Failed k) n l m = omega arith
+  last_and_grows _ n l m = omega arith
 
   last_or_grows : (p : Answer) (n : ℕ) → grown_answer h p ≤ n → 1 ≤ n → grown_answer h (last_answer (Or (Lit (Boolean false))) p) ≤ suc n
   last_or_grows (Evaluated (Plain (Boolean b))) n l m = omega arith
-  last_or_grows (Evaluated (Plain _)) n l m = omega arith
-  last_or_grows (Evaluated _) n l m = omega arith
   last_or_grows (ResidualTree r) n l m = omega (arith, l, m)
-  last_or_grows (Failed k) n l m = omega arith
+  last_or_grows _ n l m = omega arith
 
   and_grows : (p q : Answer) (t : Tree) (n : ℕ) → grown_answer h p ≤ n → grown_answer h q ≤ n → grown h t ≤ n → 1 ≤ n → grown_answer h (and_answer facts p q t) ≤ suc n
   and_grows (ResidualTree r) q t n a b c d = omega (arith, a, effort_grows q t n b c)
   and_grows (Evaluated (Plain (Boolean true))) q t n a b c d = last_and_grows q n b d
-  and_grows (Evaluated (Plain (Boolean false))) q t n a b c d = omega arith
-  and_grows (Evaluated (Plain _)) q t n a b c d = omega arith
-  and_grows (Evaluated _) q t n a b c d = omega arith
-  and_grows (Failed k) q t n a b c d = omega arith
+  and_grows _ q t n a b c d = omega arith
 
   or_grows : (p q : Answer) (t : Tree) (n : ℕ) → grown_answer h p ≤ n → grown_answer h q ≤ n → grown h t ≤ n → 1 ≤ n → grown_answer h (or_answer facts p q t) ≤ suc n
   or_grows (ResidualTree r) q t n a b c d = omega (arith, a, effort_grows q t n b c)
   or_grows (Evaluated (Plain (Boolean false))) q t n a b c d = last_or_grows q n b d
-  or_grows (Evaluated (Plain (Boolean true))) q t n a b c d = omega arith
-  or_grows (Evaluated (Plain _)) q t n a b c d = omega arith
-  or_grows (Evaluated _) q t n a b c d = omega arith
-  or_grows (Failed k) q t n a b c d = omega arith
+  or_grows _ q t n a b c d = omega arith
 
   if_grows : (p q s : Answer) (y z : Tree) (n : ℕ) → grown_answer h p ≤ n → grown_answer h q ≤ n → grown_answer h s ≤ n → grown h y ≤ n → grown h z ≤ n → grown_answer h (if_answer facts p q s y z) ≤ suc n
   if_grows (ResidualTree r) q s y z n a b c d e = omega (arith, a, effort_grows q y n b d, effort_grows s z n c e)
   if_grows (Evaluated (Plain (Boolean true))) q s y z n a b c d e = omega (arith, b)
   if_grows (Evaluated (Plain (Boolean false))) q s y z n a b c d e = omega (arith, c)
-  if_grows (Evaluated (Plain _)) q s y z n a b c d e = omega arith
-  if_grows (Evaluated _) q s y z n a b c d e = omega arith
-  if_grows (Failed k) q s y z n a b c d e = omega arith
+  if_grows _ q s y z n a b c d e = omega arith
 
   next_grows : (p : Answer) (ps : Answers) (n : ℕ) → grown_answer h p ≤ n → grown_answers ps ≤ n → grown_answers (and_next facts p ps) ≤ n
-  next_grows (Failed k) ps n a b = omega arith
   next_grows (Evaluated v) (AllEvaluated vs) n a b = max-le a b
   next_grows (Evaluated v) (SomeResiduals rs) n a b = max-le (omega (arith, written_grows h facts v, a)) b
-  next_grows (Evaluated v) (SomeFailed k) n a b = omega arith
   next_grows (ResidualTree r) (AllEvaluated vs) n a b = max-le a (omega (arith, all_written_grow h facts vs, b))
   next_grows (ResidualTree r) (SomeResiduals rs) n a b = max-le a b
-  next_grows (ResidualTree r) (SomeFailed k) n a b = omega arith
+  next_grows _ _ n a b = omega arith
 
   built_grows : (o : Operator) (ps : Answers) (n : ℕ) → grown_answers ps ≤ n → max (read_height h o) (suc n) ≤ limit → grown_answer h (built_answer facts o ps) ≤ max (read_height h o) (suc n)
   built_grows o (AllEvaluated vs) n l m = answer_grows (applied facts o vs) _ (applied_high o vs n l m)
@@ -352,15 +220,11 @@ module _ (h : Heights) (limit : ℕ) (facts : Facts) (holds : LeafAnswers) (with
 
   mutual
     pub projected_grows : (t : Tree) → grown h t ≤ limit → grown_answer h (projected_in facts holds t) ≤ grown h t
-    projected_grows (Lit l) m = omega arith
     projected_grows (Var v) m = within.variable v m
     projected_grows (Unknown n ty) m = within.unknown n ty
     projected_grows (Apply o ts) m =
         built_grows o (all_projected_in facts holds ts) (all_grown h ts) (all_projected_grow ts (below_within limit (read_height h o) (all_grown h ts) m)) m
-    projected_grows (Slot s) m = omega arith
-    projected_grows (If a b c) m = omega arith
-    projected_grows (And a b) m = omega arith
-    projected_grows (Or a b) m = omega arith
+    projected_grows _ m = omega arith
 
     pub all_projected_grow : (ts : Trees) → all_grown h ts ≤ limit → grown_answers (all_projected_in facts holds ts) ≤ all_grown h ts
     all_projected_grow no_trees m = omega arith
@@ -379,10 +243,9 @@ module _ (h : Heights) (limit : ℕ) (facts : Facts) (holds : LeafAnswers) (with
   entry_step false t o n a b = b
 
   entry_grows : (ks : List Text) (ts : Trees) (a : Text) → grown_entry (found_tree ks ts a) ≤ all_grown h ts
-  entry_grows [] ts a = omega arith
-  entry_grows (k ∷ ks) no_trees a = omega arith
   entry_grows (k ∷ ks) (a_tree t ts) a =
       entry_step (same_text k a) t (found_tree ks ts a) _ (le-max_left (grown h t) (all_grown h ts)) (omega (arith, entry_grows ks ts a, le-max_right (grown h t) (all_grown h ts)))
+  entry_grows _ _ a = omega arith
 
   entry_answer_grows : (a : Text) (r : Tree) (b : Bool) (o : Option Tree) → grown_entry o ≤ grown h r → grown h r ≤ limit → grown_answer h (entry_answer facts holds a r b o) ≤ max (h.held a) (suc (max (grown h r) 0))
   entry_answer_grows a r b None l m = omega arith
@@ -392,31 +255,22 @@ module _ (h : Heights) (limit : ℕ) (facts : Facts) (holds : LeafAnswers) (with
   record_entry_grows : (ks : List Text) (rs : Trees) (a : Text) → grown_entry (found_tree ks rs a) ≤ grown h (Apply (MakeRecord ks) rs)
   record_entry_grows ks rs a = omega (arith, entry_grows ks rs a, le-max_right 0 (suc (all_grown h rs)))
 
-  attribute_left_grows : (a : Text) (r : Tree) → grown h r ≤ limit → grown_answer h (attribute_answer facts holds a r) ≤ max (h.held a) (suc (max (grown h r) 0))
-  attribute_left_grows a (Apply (MakeRecord ks) rs) m = entry_answer_grows a (Apply (MakeRecord ks) rs) (are_projectable rs) (found_tree ks rs a) (record_entry_grows ks rs a) m
-  attribute_left_grows a _ m = omega arith
-
   has_entry_grows : (a : Text) (r : Tree) (b : Bool) (o : Option Tree) → grown_answer h (has_entry_answer a r b o) ≤ max 0 (suc (max (grown h r) 0))
   has_entry_grows a r true (Some t) = omega arith
-  has_entry_grows a r true None = omega arith
-  has_entry_grows a r false o = omega arith
-
-  has_left_grows : (a : Text) (r : Tree) → grown_answer h (has_answer a r) ≤ max 0 (suc (max (grown h r) 0))
-  has_left_grows a (Apply (MakeRecord ks) rs) = has_entry_grows a (Apply (MakeRecord ks) rs) (are_projectable rs) (found_tree ks rs a)
-  has_left_grows a _ = omega arith
-
-  is_left_grows : (ty : Name) (r : Tree) → grown_answer h (is_answer ty r) ≤ max 0 (suc (max (grown h r) 0))
-  is_left_grows ty (Unknown n (Some (EntityType u))) = omega arith
-  is_left_grows ty _ = omega arith
+  has_entry_grows a r _ _ = omega arith
 
   equal_left_grows : (b : Bool) (r s : Tree) → grown_answer h (equal_answer b r s) ≤ max 0 (suc (max (grown h r) (max (grown h s) 0)))
   equal_left_grows true r s = omega arith
   equal_left_grows false r s = omega arith
 
   left_grows : (o : Operator) (rs : Trees) → all_grown h rs ≤ limit → grown_answer h (residual_answer facts holds o rs) ≤ grown h (Apply o rs)
-  left_grows (GetAttr a) (a_tree r no_trees) m = attribute_left_grows a r (both_within limit (grown h r) 0 m).0
-  left_grows (HasAttr a) (a_tree r no_trees) m = has_left_grows a r
-  left_grows (tree.Is ty) (a_tree r no_trees) m = is_left_grows ty r
+  left_grows (GetAttr a) (a_tree (Apply (MakeRecord ks) rs) no_trees) m =
+      entry_answer_grows a (Apply (MakeRecord ks) rs) (are_projectable rs) (found_tree ks rs a) (record_entry_grows ks rs a) (both_within limit (grown h (Apply (MakeRecord ks) rs)) 0 m).0
+  left_grows (GetAttr a) (a_tree r no_trees) m = omega arith
+  left_grows (HasAttr a) (a_tree (Apply (MakeRecord ks) rs) no_trees) m = has_entry_grows a (Apply (MakeRecord ks) rs) (are_projectable rs) (found_tree ks rs a)
+  left_grows (HasAttr a) (a_tree r no_trees) m = omega arith
+  left_grows (tree.Is ty) (a_tree (Unknown n (Some (EntityType u))) no_trees) m = omega arith
+  left_grows (tree.Is ty) (a_tree r no_trees) m = omega arith
   left_grows Equal (a_tree r (a_tree s no_trees)) m = equal_left_grows (types_differ (stated_type r) (stated_type s)) r s
   left_grows _ _ m = omega arith
 
@@ -427,29 +281,24 @@ module _ (h : Heights) (limit : ℕ) (facts : Facts) (holds : LeafAnswers) (with
   apply_grows o (SomeFailed k) n l m = omega arith
 
   pub some_grown : (t : Tree) → 1 ≤ grown h t
-  some_grown (Lit l) = omega arith
   some_grown (Var Principal) = within.some_named (codes "principal")
   some_grown (Var Action) = within.some_named (codes "action")
   some_grown (Var Resource) = within.some_named (codes "resource")
   some_grown (Var Context) = within.some_context
-  some_grown (Slot s) = omega arith
   some_grown (Unknown n ty) = within.some_named n
-  some_grown (If a b c) = omega arith
-  some_grown (And a b) = omega arith
-  some_grown (Or a b) = omega arith
   some_grown (Apply o ts) = omega (arith, le-max_right (read_height h o) (suc (all_grown h ts)))
+  some_grown _ = omega arith
 
   mutual
     -- what isn't written into stays as high
     pub height_grows : (t : Tree) → height t ≤ grown h t
-    height_grows (Lit l) = omega arith
     height_grows (Var v) = some_grown (Var v)
-    height_grows (Slot s) = omega arith
     height_grows (Unknown n ty) = within.some_named n
     height_grows (If a b c) = omega (arith, height_grows a, height_grows b, height_grows c)
     height_grows (And a b) = omega (arith, height_grows a, height_grows b)
     height_grows (Or a b) = omega (arith, height_grows a, height_grows b)
     height_grows (Apply o ts) = omega (arith, heights_grow ts, le-max_right (read_height h o) (suc (all_grown h ts)))
+    height_grows _ = omega arith
 
     heights_grow : (ts : Trees) → heights ts ≤ all_grown h ts
     heights_grow no_trees = omega arith

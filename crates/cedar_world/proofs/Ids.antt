@@ -12,7 +12,8 @@ use Rattle.cedar_world.specs.Answer.{Ids, ids_of, has_id}
 use Rattle.cedar_world.specs.Answers.{erring_as, errors_of}
 use Rattle.cedar_world.specs.Standing.{answer_by, AnswersAreMade}
 use Rattle.cedar_world.proofs.Lists.{same_option, IsAmong, contained, contains, mapped, unmapped}
-use Rattle.cedar_world.proofs.InForce.{text_itself, entry_found}
+use Rattle.cedar_world.proofs.InForce.{entry_found}
+use Rattle.cedar_world.proofs.Maps.{itself}
 
 pub the_value : {A : Type 0} (o : Option A) → is_some o ≡ true → (x : A) × (o ≡ Some x)
 the_value (Some x) h = (x, refl)
@@ -33,7 +34,7 @@ found_here b v o h = rw h refl
 is_found : {X : Type 0} (es : List (Text × X)) (id : Text) (x : X) → IsAmong (id, x) es → is_some (find text_cmp id es) ≡ true
 is_found [] id x a = absurd a
 is_found {X} (e ∷ es) id x (inl is) =
-    found_here (text_eq id e.0) e.1 (find text_cmp id es) (subst (λ (y : Text × X). text_eq y.0 e.0 ≡ true) is (text_itself e.0))
+    found_here (text_eq id e.0) e.1 (find text_cmp id es) (subst (λ (y : Text × X). text_eq y.0 e.0 ≡ true) is (itself e.0))
 is_found (e ∷ es) id x (inr a) = found_step (text_eq id e.0) e.1 (find text_cmp id es) (is_found es id x a)
 
 pub got : {X : Type 0} (es : List (Text × X)) (id : Text) (x : X) → finite.get (finite.from_entries {R = text_cmp} es) id ≡ Some x → IsAmong (id, x) es
@@ -43,10 +44,9 @@ pub is_got : {X : Type 0} (es : List (Text × X)) (id : Text) (x : X) → IsAmon
 is_got es id x a = ap is_some (finite.get-from_entries text_cmp_total es id) ∙ is_found es id x a
 
 unit_same : (a b : Option (Unit {0})) → is_some a ≡ is_some b → a ≡ b
-unit_same None None h = refl
-unit_same (Some u) (Some v) h = refl
 unit_same None (Some u) h = cc
 unit_same (Some u) None h = cc
+unit_same _ _ h = refl
 
 pub same_ids : (a b : Ids) → ((id : Text) → has_id a id ≡ true → has_id b id ≡ true) → ((id : Text) → has_id b id ≡ true → has_id a id ≡ true) → a ≡ b
 same_ids a b f g =
@@ -123,15 +123,11 @@ has_failed js id k h = (h.policy, contains js h.policy h.among, h.id_is, h.errs)
 
 errs_here : (id : Text) (s : Standing) (k : Kind) (rest : List (Text × Kind)) → s ≡ Erring k → IsAmong (id, k) (erring_as id s rest)
 errs_here id (Erring l) k rest h = let is : l ≡ k = cc in inl (λ i. (id, is i))
-errs_here id Satisfied k rest h = cc
-errs_here id Unsatisfied k rest h = cc
-errs_here id Residual k rest h = cc
+errs_here id _ k rest h = cc
 
 errs_later : (x : Text × Kind) (id : Text) (s : Standing) (rest : List (Text × Kind)) → IsAmong x rest → IsAmong x (erring_as id s rest)
 errs_later x id (Erring l) rest a = inr a
-errs_later x id Satisfied rest a = a
-errs_later x id Unsatisfied rest a = a
-errs_later x id Residual rest a = a
+errs_later x id _ rest a = a
 
 listed_error : (js : List Judged) (j : Judged) (k : Kind) → IsAmong j js → j.standing ≡ Erring k → IsAmong (j.id, k) (errors_of js)
 listed_error [] j k a h = absurd a

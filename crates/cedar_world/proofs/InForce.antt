@@ -2,9 +2,9 @@
 use Rattle.std.proofs.Common.{◌≡◌, ◌⊎◌, inl, inr, Bool, true, false, cond, ◌&&◌, T, List, [], ◌∷◌, Option, Some, None, All, get_or, refl, sym, ◌∙◌, ap, subst}
 use Rattle.std.proofs.lemmas.List.Elements.{Contains-get_or}
 use Rattle.std.specs.declared.cmp.Ordering.{Ordering}
-use Rattle.std.specs.declared.cmp.Ordering.TheVariants.{Less, Equal, Greater}
+use Rattle.std.specs.declared.cmp.Ordering.TheVariants.{Equal}
 use Rattle.std.specs.Ordering.{is_lt, is_eq, ordering_reverse}
-use Rattle.std.specs.Cmp.{Equal-is, tied_itself}
+use Rattle.std.specs.Cmp.{Equal-is}
 use Rattle.std.specs.FinMap as finite
 use Rattle.std.specs.FinMap.Entries.{find, below_all, is_sorted, same_entries}
 use Rattle.cedar_language.specs.Uid.{Text}
@@ -14,9 +14,7 @@ use Rattle.cedar_grammar.specs.Syntax.{PolicySyntax}
 use Rattle.cedar_world.specs.World.{World, Bound, Policies, standing_for, and_more, standing, in_force, in_force_as, in_force_at}
 use Rattle.cedar_world.specs.InForce.{AreInForce}
 use Rattle.cedar_world.proofs.Lists.{IsAmong, contained, contains, same_option}
-
-pub text_itself : (id : Text) → text_eq id id ≡ true
-text_itself id = ap is_eq (tied_itself text_cmp_total id)
+use Rattle.cedar_world.proofs.Maps.{itself}
 
 pub same_id : (a b : Text) → text_eq a b ≡ true → a ≡ b
 same_id a b h = text_cmp_same a b ((Equal-is (text_cmp a b)).0 h)
@@ -32,9 +30,8 @@ both_second false b h = absurd h
 -- ---- entries in the order of their keys
 
 not_tied : (o : Ordering) → T (is_lt o) → is_eq (ordering_reverse o) ≡ false
-not_tied Less h = refl
 not_tied Equal h = absurd h
-not_tied Greater h = refl
+not_tied _ h = refl
 
 module _ {X : Type 0} where
   entry_step : (id : Text) (k : Text) (v x : X) (es : List (Text × X)) → (find text_cmp id es ≡ Some x → IsAmong (id, x) es) →
@@ -57,7 +54,7 @@ module _ {X : Type 0} where
   pub found_entry : (es : List (Text × X)) (id : Text) (x : X) → T (is_sorted text_cmp es) → IsAmong (id, x) es → find text_cmp id es ≡ Some x
   found_entry [] id x h a = absurd a
   found_entry (e ∷ es) id x h (inl is) =
-      let tie : text_eq id e.0 ≡ true = subst (λ (y : Text × X). text_eq y.0 e.0 ≡ true) is (text_itself e.0) in
+      let tie : text_eq id e.0 ≡ true = subst (λ (y : Text × X). text_eq y.0 e.0 ≡ true) is (itself e.0) in
       rw tie (ap (λ (y : Text × X). Some y.1) is)
   found_entry (e ∷ es) id x h (inr a) =
       let other : text_eq id e.0 ≡ false = later_differs e.0 es id x (both_first (below_all text_cmp e.0 es) _ h) a in

@@ -3,18 +3,20 @@ use Rattle.std.proofs.Common.{◌≡◌, ◌↔◌, ◌⊎◌, inl, inr, Bool, t
 use Rattle.std.proofs.lemmas.Bool.{and_parts, and_from, or_parts, false_from_ne_true}
 use Rattle.std.specs.FinMap as finite
 use Rattle.cedar_language.specs.Uid.{Text, Name, Uid}
-use Rattle.cedar_language.specs.Tree.{Boolean, Long, String, Entity, MakeSet, MakeRecord, Call, Tree, Lit, Unknown, Apply, Trees, no_trees, a_tree}
-use Rattle.cedar_language.specs.Value.{Value, Plain, SetOf, RecordOf, ExtensionOf, Kind, Outcome, Gives, Fails}
+use Rattle.cedar_language.specs.Tree.{Boolean, MakeRecord, Tree, Apply, Trees, ValueType}
+use Rattle.cedar_language.specs.Value.{Value, Plain, Kind, Outcome, Gives}
 use Rattle.cedar_language.specs.Facts.{Facts}
-use Rattle.cedar_language.specs.Meaning.{Request, apply_of, meaning, meanings}
-use Rattle.cedar_language.specs.Answering.{Effect, Permit, Forbid, Allow, Deny, Erring, is_permit, is_satisfied, Judged, satisfied_permit, satisfied_forbid, some, known_decision, is_reason, ids_with}
+use Rattle.cedar_language.specs.Meaning.{Request, meaning}
+use Rattle.cedar_language.specs.Answering.{Effect, Permit, Forbid, Allow, Deny, is_permit, is_satisfied, Judged, satisfied_permit, satisfied_forbid, some, known_decision, is_reason, ids_with}
 use Rattle.cedar_language.specs.Authorization.{Known, request_at, standing_of}
 use Rattle.cedar_grammar.specs.Syntax.{PolicySyntax, condition}
+use Rattle.cedar_partial_evaluation.proofs.Passing.{of_data, data_passes}
+use Rattle.cedar_partial_evaluation.proofs.Leaves.{one_meaning}
 use Rattle.cedar_partial_evaluation.specs.Filling.{FillsPart, FillsContext, names_told}
 use Rattle.cedar_world.specs.Answer.{Answer, ids_of}
 use Rattle.cedar_world.specs.Answers.{judge, errors_of}
 use Rattle.cedar_world.specs.Asking.{Part, Given, Missing, Entries, NoContext, WithEntries, Question}
-use Rattle.cedar_world.specs.Bodies.{is_restricted, are_restricted, some_name, some_name_of, ask_body}
+use Rattle.cedar_world.specs.Bodies.{is_restricted, some_name, ask_body}
 use Rattle.cedar_world.specs.Commands.{Ask, Answered}
 use Rattle.cedar_world.specs.Fillings.{IsFilling}
 use Rattle.cedar_world.specs.KnownQuestions.{Asks, IsSatisfied, SomeSatisfied, Errs, AnswersByMeaning, IsAnsweredByMeaning, KnownQuestionsAreAnswered}
@@ -25,9 +27,12 @@ use Rattle.cedar_world.specs.Session.{no_command}
 use Rattle.cedar_world.specs.Setting.{Setting, BodiesAreOne, functions_alone}
 use Rattle.cedar_world.specs.Step.{Step}
 use Rattle.cedar_world.specs.World.{World, in_force, in_force_at, new_world}
-use Rattle.cedar_world.proofs.Fillings.{set_same, record_same, call_same}
-use Rattle.cedar_world.proofs.Ids.{the_value, HasPassed, with_id, id_with, HasFailed, with_error, error_with}
-use Rattle.cedar_world.proofs.InForce.{listed_in_force, in_force_listed, text_itself}
+use Rattle.cedar_world.proofs.Fillings.{data_same}
+use Rattle.cedar_world.proofs.Names.{each_named}
+use Rattle.cedar_world.proofs.Ids.{HasPassed, with_id, id_with, HasFailed, has_failed, error_with, answers_are_made}
+use Rattle.cedar_world.proofs.Closed.{err_once}
+use Rattle.cedar_world.proofs.InForce.{listed_in_force, in_force_listed}
+use Rattle.cedar_world.proofs.Maps.{itself}
 use Rattle.cedar_world.proofs.Lists.{IsAmong, mapped, unmapped, some_of, of_some}
 use Rattle.cedar_world.proofs.Parts.{same_some}
 use Rattle.cedar_world.proofs.RunSession.{reached_on}
@@ -36,24 +41,11 @@ use Rattle.cedar_world.proofs.Session.{by_the_rules}
 -- ---- the context of a known question
 
 -- data in which no name stands means the same whatever is asked
-module _ (facts others : Facts) (same : (name : Name) → facts.function name ≡ others.function name) (r s : Request) where
-  mutual
-    closed_means : (t : Tree) → is_restricted t ≡ true → ((n : Text) → some_name (text_eq n) t ≡ false) → meaning facts r t ≡ meaning others s t
-    closed_means (Lit l) d none = refl
-    closed_means (Unknown n ty) d none = absurd (true≢false (sym (text_itself n) ∙ none n))
-    closed_means (Apply MakeSet ts) d none = set_same facts others same r (meanings facts r ts) ∙ ap (apply_of others MakeSet) (all_closed_mean ts d none)
-    closed_means (Apply (MakeRecord ks) ts) d none = record_same facts others same r ks (meanings facts r ts) ∙ ap (apply_of others (MakeRecord ks)) (all_closed_mean ts d none)
-    closed_means (Apply (Call f) ts) d none = call_same facts others same r f (meanings facts r ts) ∙ ap (apply_of others (Call f)) (all_closed_mean ts d none)
-    closed_means _ d none = cc
-
-    all_closed_mean : (ts : Trees) → are_restricted ts ≡ true → ((n : Text) → some_name_of (text_eq n) ts ≡ false) → meanings facts r ts ≡ meanings others s ts
-    all_closed_mean no_trees d none = refl
-    all_closed_mean (a_tree t ts) d none =
-        let (dt, dts) = and_parts (is_restricted t) (are_restricted ts) d in
-        rw (
-          closed_means t dt (λ n. (or_parts (some_name (text_eq n) t) (some_name_of (text_eq n) ts) (none n)).0),
-          all_closed_mean ts dts (λ n. (or_parts (some_name (text_eq n) t) (some_name_of (text_eq n) ts) (none n)).1),
-        ) refl
+closed_means : (facts others : Facts) → ((name : Name) → facts.function name ≡ others.function name) → (r s : Request) (t : Tree) → is_restricted t ≡ true → ((n : Text) → some_name (text_eq n) t ≡ false) → meaning facts r t ≡ meaning others s t
+closed_means facts others same r s t restricted none =
+    let Never : Text → Option ValueType → Type 0 = λ n ty. ⊥ in
+    data_same facts others same r t restricted
+    ∙ one_meaning others (of_data Never) r s (λ v k. absurd k) (λ x k. absurd k) (λ n ty k. absurd k) t (data_passes Never t restricted (each_named Never t (λ n ty e. true≢false (sym e ∙ none n))))
 
 given_part : (p : Part) (o : Option Value) (u : Uid) → FillsPart p o u → (is_missing p && true) ≡ false → p ≡ Given u
 given_part (Given w) o u fills known = ap Given (sym fills)
@@ -69,7 +61,7 @@ module _ (by : Setting) (q : Question) (request : Known) (facts : Facts) (same :
   context_means : (c : Entries) → ((n : Text) → has_name c n ≡ false) → FillsContext (functions_alone by.functions) c finite.empty request.context
       → (keys : List Text) × (entries : Trees) × (c ≡ WithEntries keys entries)
       × (meaning facts (request_at request (λ s. None)) (Apply (MakeRecord keys) entries) ≡ Gives request.context)
-  context_means NoContext none fills = absurd (true≢false (sym (text_itself (codes "context")) ∙ none (codes "context")))
+  context_means NoContext none fills = absurd (true≢false (sym (itself (codes "context")) ∙ none (codes "context")))
   context_means (WithEntries ks ts) none (restricted, given, means) = (
     ks,
     ts,
@@ -97,14 +89,7 @@ module _ (by : Setting) (q : Question) (request : Known) (facts : Facts) (same :
 
 satisfied_means : (o : Outcome) → is_satisfied (standing_of o) ≡ true → o ≡ Gives (Plain (Boolean true))
 satisfied_means (Gives (Plain (Boolean true))) h = refl
-satisfied_means (Gives (Plain (Boolean false))) h = cc
-satisfied_means (Gives (Plain (Long n))) h = cc
-satisfied_means (Gives (Plain (String s))) h = cc
-satisfied_means (Gives (Plain (Entity u))) h = cc
-satisfied_means (Gives (SetOf vs)) h = cc
-satisfied_means (Gives (RecordOf ks vs)) h = cc
-satisfied_means (Gives (ExtensionOf x)) h = cc
-satisfied_means (Fails k) h = cc
+satisfied_means _ h = cc
 
 permits_only : (e : Effect) → is_permit e ≡ true → e ≡ Permit
 permits_only Permit h = refl
@@ -212,16 +197,10 @@ module _ (world : World) (facts : Facts) (request : Known) where
       let at : p.0 ≡ id = ap (λ (j : Judged). j.id) is ∙ h.id_is in
       (p.1, subst (λ i. in_force_at world.policies i ≡ Some p.1) at (listed_in_force world.policies p.0 p.1 among), ap (λ (j : Judged). j.standing) is ∙ h.errs)
 
-  one_kind : (id : Text) (k l : Kind) → Errs facts request world.policies id k → Errs facts request world.policies id l → k ≡ l
-  one_kind id k l (s, force, errs) (t, there, too) =
-      let same : s ≡ t = same_some s t (sym force ∙ there) in
-      let kinds : Erring k ≡ Erring l = sym errs ∙ ap (λ r. standing_of (means_so r)) same ∙ too in
-      cc
-
   errs_named : (id : Text) (k : Kind) → Errs facts request world.policies id k → finite.get answer.erring id ≡ Some k
   errs_named id k (s, force, errs) =
-      let (l, is) = the_value (finite.get answer.erring id) (with_error all id k (record { policy = judge facts request (id, s); among = listed id s force; id_is = refl; errs = errs })) in
-      is ∙ ap Some (one_kind id l k (failed_errs id l (error_with all id l is)) (s, force, errs))
+      ((answers_are_made all (err_once world facts request)).erring id k).1
+      (has_failed all id k (record { policy = judge facts request (id, s); among = listed id s force; id_is = refl; errs = errs }))
 
   by_meaning : AnswersByMeaning facts request world.policies answer
   by_meaning = record {

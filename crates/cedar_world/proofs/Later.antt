@@ -1,15 +1,14 @@
 -- What the rules say of policies that are taken up again, joined with the last answer, is the answer once more is told.
-use Rattle.std.proofs.Common.{◌≡◌, inl, inr, Some, None, Option, is_some, IsTrue, IsSome, List, refl, sym, ◌∙◌, subst}
+use Rattle.std.proofs.Common.{◌≡◌, inl, inr, is_some, IsTrue, IsSome, List, sym, ◌∙◌, subst}
 use Rattle.std.specs.Cmp.{both_ways}
 use Rattle.std.specs.FinMap as finite
 use Rattle.cedar_language.specs.Uid.{Text}
 use Rattle.cedar_language.specs.Value.{Kind}
-use Rattle.cedar_language.specs.OrderLaws.{text_cmp_total, text_cmp_same}
 use Rattle.cedar_language.specs.Facts.{Facts}
 use Rattle.cedar_language.specs.Answering.{Effect, Erring, Standing, Judged}
 use Rattle.cedar_language.specs.Authorization.{Known}
 use Rattle.cedar_partial_evaluation.specs.Question.{Extends, AreMadeTold, IsAccepted}
-use Rattle.cedar_world.specs.Answer.{Ids, has_id, Answer}
+use Rattle.cedar_world.specs.Answer.{has_id, Answer}
 use Rattle.cedar_grammar.specs.Syntax.{PolicySyntax}
 use Rattle.cedar_world.specs.World.{World, Asked}
 use Rattle.cedar_world.specs.Asking.{Told}
@@ -21,26 +20,15 @@ use Rattle.cedar_world.specs.WorldFacts.{AreFactsOf}
 use Rattle.cedar_world.specs.Sound.{IsSoundLater}
 use Rattle.cedar_world.specs.Again.{StandsAgain, ErredFirst}
 use Rattle.cedar_world.specs.Joined.{IsJoined, Allows, IsSteady, StandsLater, LaterAnswersStand}
-use Rattle.cedar_world.proofs.KnownLater.{Laws}
+use Rattle.cedar_world.proofs.WorldFacts.{facts_are_one}
+use Rattle.cedar_world.proofs.Ids.{same_ids}
 use Rattle.cedar_world.proofs.Beside.{holds}
-use Rattle.cedar_world.proofs.Allowed.{allowed as new_allows}
-use Rattle.cedar_world.proofs.PromptTells.{SaysSo, says_so}
+use Rattle.cedar_world.proofs.Allowed.{allowed as new_allows, SaysSo, says_so}
 use Rattle.cedar_world.proofs.Whole.{IsAll, says_all}
 use Rattle.cedar_world.proofs.Steady.{known_is, names_no_ghosts, is_fair}
 use Rattle.cedar_world.proofs.Joined.{may_cases, some_decision, denied, allowed, new_must, last_error, new_error, joined_follows, joined_holds, joined_names, joined_allows}
 
-unit_same : (a b : Option (Unit {0})) → is_some a ≡ is_some b → a ≡ b
-unit_same None None h = refl
-unit_same (Some u) (Some v) h = refl
-unit_same None (Some u) h = cc
-unit_same (Some u) None h = cc
-
-same_ids : (a b : Ids) → ((id : Text) → IsTrue (has_id a id) → IsTrue (has_id b id)) → ((id : Text) → IsTrue (has_id b id) → IsTrue (has_id a id)) → a ≡ b
-same_ids a b f g =
-    finite.same_map text_cmp_total text_cmp_same a b
-    (λ id. unit_same (finite.get a id) (finite.get b id) (both_ways (has_id a id) (has_id b id) (f id) (g id)))
-
-module _ (laws : Laws) (by : Setting) (world : World) (facts : Facts) (asked : Asked) (told : Told) (Stands : PolicySyntax → Standing → Type 0) (js : List Judged) (new answer : Answer)
+module _ (by : Setting) (world : World) (facts : Facts) (asked : Asked) (told : Told) (Stands : PolicySyntax → Standing → Type 0) (js : List Judged) (new answer : Answer)
     (are : AreFactsOf by world facts) (more : Extends asked.told told) (made : AreMadeTold facts told) (accepted : IsAccepted facts told asked.question.context)
     (steady : IsSteady by world facts asked.question asked.told asked.last) (sound : IsSoundLater by world facts asked.question told Stands (ErredFirst facts asked.question))
     (judges : Judges world Stands js) (says : Says js new) (joined : IsJoined asked.last new answer) where
@@ -48,7 +36,7 @@ module _ (laws : Laws) (by : Setting) (world : World) (facts : Facts) (asked : A
   Erred = ErredFirst facts asked.question
 
   new_is_fair : IsFair by world asked.question told new
-  new_is_fair = is_fair laws by world facts are asked.question told Stands Erred sound js judges new says
+  new_is_fair = is_fair by world facts are asked.question told Stands sound.fair js judges new says
 
   last_is_fair : IsFair by world asked.question told asked.last
   last_is_fair filling request whole agrees known = steady.fair filling request whole (record { filling_is = agrees.filling_is; keeps = λ n v h. agrees.keeps n v (more n v h) }) known
@@ -60,7 +48,9 @@ module _ (laws : Laws) (by : Setting) (world : World) (facts : Facts) (asked : A
   -- ---- what is decided
 
   said : SaysSo by world facts asked.question told Erred new
-  said = says_so by world facts asked.question told Stands Erred sound js judges made accepted new says
+  said =
+      says_so by world facts asked.question told Stands js judges
+      (λ id s force result settles standing stands. (sound.carried told (λ n v e. e) made accepted id s force result settles standing stands).0) Erred sound.sharp new says
 
   last_allows : Allows by world facts asked.question told asked.last
   last_allows = steady.stays told more made accepted
@@ -98,7 +88,7 @@ module _ (laws : Laws) (by : Setting) (world : World) (facts : Facts) (asked : A
       new_within = (names_no_ghosts world Stands js judges new says by).must
 
   prompt : IsPromptButKinds by world asked.question told answer
-  prompt other other_are = subst (λ f. SaysDecided by world f asked.question told answer) (laws.facts.one by world facts other are other_are) says_decided
+  prompt other other_are = subst (λ f. SaysDecided by world f asked.question told answer) (facts_are_one by world facts other are other_are) says_decided
 
   -- ---- once all is told
 
@@ -107,13 +97,13 @@ module _ (laws : Laws) (by : Setting) (world : World) (facts : Facts) (asked : A
     all = known_answer by world facts request
 
     now : HoldsOf new all
-    now = holds laws by world facts request Stands js judges asked.question told Erred sound told (λ n v h. h) fills.fills new says
+    now = holds world Stands js judges facts request (λ id s force standing stands. sound.fair id s force standing stands told request (λ n v h. h) fills.fills) by new says
 
     both : HoldsOf answer all
     both = joined_holds asked.last new answer joined all old now
 
     exact : IsAll world Erred new all
-    exact = says_all laws by world facts asked.question told Stands Erred sound js judges request fills.fills new says
+    exact = says_all by world facts asked.question told Stands Erred sound js judges request fills.fills new says
 
     same_decision : answer.decision ≡ all.decision
     same_decision = let (d, is) = some_decision asked.last new answer joined exact.decision.0 exact.decision.1 in is ∙ sym (both.decision d is)
@@ -146,7 +136,7 @@ module _ (laws : Laws) (by : Setting) (world : World) (facts : Facts) (asked : A
 
   whole : IsWhole by world asked.question told answer
   whole request found fills known =
-      let is : found ≡ known_answer by world facts request = known_is laws facts are found known in
+      let is : found ≡ known_answer by world facts request = known_is by world facts are request found known in
       let old : HoldsOf asked.last found = last_is_fair told request found (record { filling_is = fills; keeps = λ n v h. h }) known in
       subst (IsSameButKinds answer) (sym is) (same request fills (subst (HoldsOf asked.last) is old))
 
@@ -155,7 +145,8 @@ module _ (laws : Laws) (by : Setting) (world : World) (facts : Facts) (asked : A
   stays : (later : Told) → Extends told later → AreMadeTold facts later → IsAccepted facts later asked.question.context → Allows by world facts asked.question later answer
   stays later further later_made later_accepted =
       joined_allows asked.last new answer joined by world facts asked.question later (steady.stays later (λ n v h. further n v (more n v h)) later_made later_accepted)
-      (new_allows by world facts asked.question told Stands Erred sound js judges later further later_made later_accepted new says)
+      (new_allows by world facts asked.question later Stands js judges
+      (λ id s force result settles standing stands. (sound.carried later further later_made later_accepted id s force result settles standing stands).0) new says)
 
   pub stands : StandsLater by world facts asked told answer
   stands =
@@ -165,6 +156,6 @@ module _ (laws : Laws) (by : Setting) (world : World) (facts : Facts) (asked : A
         steady = record { fair = fair; in_force = in_force; erred = λ id s force erred. last_error asked.last new answer joined id (steady.erred id s force erred); stays = stays };
       }
 
-pub later_answers_stand : Laws → LaterAnswersStand
-later_answers_stand laws by world facts asked told js new answer are more made accepted steady sound judges says joined =
-    stands laws by world facts asked told (StandsAgain world.policies facts asked.question told) js new answer are more made accepted steady sound judges says joined
+pub later_answers_stand : LaterAnswersStand
+later_answers_stand by world facts asked told js new answer are more made accepted steady sound judges says joined =
+    stands by world facts asked told (StandsAgain world.policies facts asked.question told) js new answer are more made accepted steady sound judges says joined

@@ -1,7 +1,7 @@
 -- How policies stand by answers, beside how they stand by results.
 use Rattle.std.proofs.Common.{◌≡◌, true, false, refl, sym, ◌∙◌, ap, subst}
-use Rattle.cedar_language.specs.Tree.{Boolean, Long, String, Entity, Tree}
-use Rattle.cedar_language.specs.Value.{Value, Plain, SetOf, RecordOf, ExtensionOf, Kind, TypeError, Outcome, Gives, Fails}
+use Rattle.cedar_language.specs.Tree.{Boolean, Tree}
+use Rattle.cedar_language.specs.Value.{Value, Plain, Kind, TypeError, Outcome, Gives, Fails}
 use Rattle.cedar_language.specs.Facts.{Facts}
 use Rattle.cedar_language.specs.Answering.{Standing, Erring, is_residual}
 use Rattle.cedar_language.specs.Authorization.{standing_of}
@@ -13,43 +13,17 @@ use Rattle.cedar_partial_evaluation.specs.Early.{standing_of_answer, standing_se
 use Rattle.cedar_partial_evaluation.specs.LinkingEarly.{StandAlike}
 use Rattle.cedar_partial_evaluation.specs.Reauthorizing.{condition_again}
 use Rattle.cedar_world.specs.Sound.{Becomes}
+use Rattle.cedar_world.proofs.Standings.{not_residual, comes_itself}
 
 -- ---- results
 
-pub never_residual : (o : Outcome) → is_residual (standing_of o) ≡ false
-never_residual (Gives (Plain (Boolean true))) = refl
-never_residual (Gives (Plain (Boolean false))) = refl
-never_residual (Gives (Plain (Long n))) = refl
-never_residual (Gives (Plain (String s))) = refl
-never_residual (Gives (Plain (Entity u))) = refl
-never_residual (Gives (SetOf vs)) = refl
-never_residual (Gives (RecordOf ks vs)) = refl
-never_residual (Gives (ExtensionOf x)) = refl
-never_residual (Fails k) = refl
-
-value_standing : (v : Value) → standing_of (Gives v) ≡ standing_of_answer (Evaluated v)
+pub value_standing : (v : Value) → standing_of (Gives v) ≡ standing_of_answer (Evaluated v)
 value_standing (Plain (Boolean true)) = refl
-value_standing (Plain (Boolean false)) = refl
-value_standing (Plain (Long n)) = refl
-value_standing (Plain (String s)) = refl
-value_standing (Plain (Entity u)) = refl
-value_standing (SetOf vs) = refl
-value_standing (RecordOf ks vs) = refl
-value_standing (ExtensionOf e) = refl
+value_standing _ = refl
 
 pub result_standing : (o : Outcome) → standing_of_answer (answer_of o) ≡ standing_of o
 result_standing (Gives v) = sym (value_standing v)
 result_standing (Fails k) = refl
-
-becomes_itself : (v : Value) → Becomes (standing_of_answer (Evaluated v)) (standing_of (Gives v))
-becomes_itself (Plain (Boolean true)) = (refl, tt)
-becomes_itself (Plain (Boolean false)) = (tt, tt)
-becomes_itself (Plain (Long n)) = (tt, (TypeError, refl))
-becomes_itself (Plain (String s)) = (tt, (TypeError, refl))
-becomes_itself (Plain (Entity u)) = (tt, (TypeError, refl))
-becomes_itself (SetOf vs) = (tt, (TypeError, refl))
-becomes_itself (RecordOf ks vs) = (tt, (TypeError, refl))
-becomes_itself (ExtensionOf e) = (tt, (TypeError, refl))
 
 -- ---- what is settled
 
@@ -62,11 +36,10 @@ below_closed (Is v) y o e h = sym e ∙ h
 
 -- an answer becomes what it is read as
 pub answer_becomes : (facts : Facts) (around : LeafSettlings) (p : Answer) (o : Outcome) → kindless o ≡ read facts around p → Becomes (standing_of_answer p) (standing_of o)
-answer_becomes facts around (Evaluated v) (Gives w) h = let is : v ≡ w = cc in subst (λ x. Becomes (standing_of_answer (Evaluated v)) (standing_of (Gives x))) is (becomes_itself v)
-answer_becomes facts around (Evaluated v) (Fails k) h = cc
+answer_becomes facts around (Evaluated v) (Gives w) h = let is : v ≡ w = cc in subst (λ (b : Standing × Standing). Becomes b.0 b.1) (λ i. (value_standing v i, standing_of (Gives (is i)))) (comes_itself (Gives v))
 answer_becomes facts around (ResidualTree r) o h = (tt, tt)
-answer_becomes facts around (Failed k) (Gives w) h = cc
 answer_becomes facts around (Failed k) (Fails l) h = (tt, (l, refl))
+answer_becomes facts around _ _ h = cc
 
 -- an answer that is taken up again becomes what it was to become
 module _ (facts : Facts) (holds : LeafAnswers) where
@@ -74,14 +47,8 @@ module _ (facts : Facts) (holds : LeafAnswers) where
       Becomes (standing_of_answer (partial_in facts holds (condition_again p))) standing
   again_becomes (Evaluated (Plain (Boolean true))) standing h f = h
   again_becomes (Evaluated (Plain (Boolean false))) standing h f = h
-  again_becomes (Evaluated (Plain (Long n))) standing h f = (h.0, tt)
-  again_becomes (Evaluated (Plain (String s))) standing h f = (h.0, tt)
-  again_becomes (Evaluated (Plain (Entity u))) standing h f = (h.0, tt)
-  again_becomes (Evaluated (SetOf vs)) standing h f = (h.0, tt)
-  again_becomes (Evaluated (RecordOf ks vs)) standing h f = (h.0, tt)
-  again_becomes (Evaluated (ExtensionOf e)) standing h f = (h.0, tt)
   again_becomes (ResidualTree r) standing h f = f r refl
-  again_becomes (Failed k) standing h f = (h.0, tt)
+  again_becomes _ standing h f = (h.0, tt)
 
 -- a prompt answer stands as the result to which its tree settles, but for the kind of an error
 pub prompt_stands : (errs_as : Kind → Type 0) (x : Settling) (p : Answer) → Meets errs_as x p → (result : Outcome) → x ≡ kindless result →
@@ -93,29 +60,22 @@ prompt_stands errs_as Errs p m (Fails j) e = (ap (λ x. is_residual (standing_of
 prompt_stands errs_as (Is w) p m (Gives v) e =
     let is : w ≡ v = cc in
     let stands : standing_of_answer p ≡ standing_of (Gives v) = ap standing_of_answer (m ∙ ap (λ x. Evaluated x) is) ∙ sym (value_standing v) in
-    (ap is_residual stands ∙ never_residual (Gives v), λ k h. (k, stands ∙ h))
+    (ap is_residual stands ∙ not_residual (Gives v), λ k h. (k, stands ∙ h))
 prompt_stands errs_as (Is w) p m (Fails k) e = cc
 
 -- answers that differ in what is left alone stand alike
 pub alike_standing : (p o : Answer) → StandAlike p o → standing_of_answer p ≡ standing_of_answer o
-alike_standing (Evaluated v) o h = ap standing_of_answer (sym h)
 alike_standing (ResidualTree r) o h = ap standing_of_answer (sym h.1)
-alike_standing (Failed k) o h = ap standing_of_answer (sym h)
+alike_standing _ o h = ap standing_of_answer (sym h)
 
 -- ---- how a policy stands by what is settled to be this
 
 value_settled : (v : Value) → standing_settled (Is v) ≡ standing_of (Gives v)
 value_settled (Plain (Boolean true)) = refl
-value_settled (Plain (Boolean false)) = refl
-value_settled (Plain (Long n)) = refl
-value_settled (Plain (String s)) = refl
-value_settled (Plain (Entity u)) = refl
-value_settled (SetOf vs) = refl
-value_settled (RecordOf ks vs) = refl
-value_settled (ExtensionOf e) = refl
+value_settled _ = refl
 
 pub settled_closed : (x : Settling) (o : Outcome) → x ≡ kindless o → is_residual (standing_settled x) ≡ false
-settled_closed x (Gives v) e = ap (λ y. is_residual (standing_settled y)) e ∙ ap is_residual (value_settled v) ∙ never_residual (Gives v)
+settled_closed x (Gives v) e = ap (λ y. is_residual (standing_settled y)) e ∙ ap is_residual (value_settled v) ∙ not_residual (Gives v)
 settled_closed x (Fails k) e = ap (λ y. is_residual (standing_settled y)) e
 
 pub settled_stands : (x : Settling) (o : Outcome) → x ≡ kindless o → (k : Kind) → standing_of o ≡ Erring k → (l : Kind) × (standing_settled x ≡ Erring l)

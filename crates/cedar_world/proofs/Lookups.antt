@@ -1,6 +1,6 @@
 -- Where a tree calls functions that are there, no look-up fails in its evaluation; and so it is of the policies of a text. Where no
 -- slot stands in it either, it errs with ordinary kinds alone.
-use Rattle.std.proofs.Common.{◌≡◌, ◌≢◌, Bool, true, false, ◌&&◌, not, Option, Some, None, is_some, IsSome, List, [], refl, sym, ◌∙◌, ap, subst, true≢false}
+use Rattle.std.proofs.Common.{◌≡◌, ◌≢◌, Bool, true, false, cond, ◌&&◌, not, Option, Some, None, is_some, IsSome, List, [], refl, sym, ◌∙◌, ap, subst, true≢false}
 use Rattle.std.proofs.lemmas.Bool.{and_parts}
 use Rattle.std.specs.FinMap as finite
 use Rattle.cedar_language.specs.Uid.{Text, Name, Uid}
@@ -11,9 +11,10 @@ use Rattle.cedar_language.specs.Facts.{Facts}
 use Rattle.cedar_language.specs.Operators as operators
 use Rattle.cedar_language.specs.Meaning.{Slots, slot_outcome}
 use Rattle.cedar_language.specs.Answering.{Erring}
+use Rattle.cedar_language.specs.Authorization.{request_at}
 use Rattle.cedar_partial_evaluation.specs.Early.{standing_of_answer}
 use Rattle.cedar_partial_evaluation.specs.Linking.{no_slots}
-use Rattle.cedar_partial_evaluation.specs.Partial.{Answer, Evaluated, ResidualTree, Failed, LeafAnswers, answer_of, partial_in}
+use Rattle.cedar_partial_evaluation.specs.Partial.{Answer, Evaluated, ResidualTree, Failed, LeafAnswers, answer_of, partial_in, leaf_answers_of, KnownIsMeaning}
 use Rattle.cedar_partial_evaluation.specs.Question.{Part, Given, Missing, Entries, NoContext, WithEntries, Question, Told, entity_type, value_held, name_held, part_held, held_names, context_held, variable_held, held_of}
 use Rattle.cedar_partial_evaluation.specs.Reauthorizing.{condition_again}
 use Rattle.cedar_partial_evaluation.specs.Unknowns.{fits}
@@ -21,7 +22,8 @@ use Rattle.cedar_grammar.specs.Build.{conjunction}
 use Rattle.cedar_grammar.specs.Laws.{ExprsHoldNoSlot, LinkConditions}
 use Rattle.cedar_grammar.specs.Policy.{scope_tree, with_body, slots, body_slots, bound}
 use Rattle.cedar_grammar.specs.Functions.{body_names, function_of, is_the_unknown}
-use Rattle.cedar_world.specs.KnownKinds.{IsOrdinary, IsFound, ErrsOrdinarily}
+use Rattle.cedar_world.specs.KnownKinds.{IsOrdinary, IsFound, ErrsOrdinarily, TextsErrOrdinarily}
+use Rattle.cedar_world.specs.LinkLaws.{LinksAreStatic}
 use Rattle.cedar_world.specs.NameLaws.{is_answered, CallsAreFound}
 use Rattle.cedar_world.specs.Bodies.{ask_body}
 use Rattle.cedar_world.specs.Setting.{Setting, ArePolicies, IsBody}
@@ -29,9 +31,8 @@ use Rattle.cedar_world.specs.Standing.{StandsEarly}
 use Rattle.cedar_world.specs.World.{Entities, AreFacts}
 use Rattle.cedar_grammar.specs.Bindings.{Bindings, binding_of, linked}
 use Rattle.cedar_grammar.specs.Syntax.{PolicySyntax, condition}
-use Rattle.cedar_world.proofs.KnownKinds.{still_some}
 use Rattle.cedar_world.proofs.OrdinaryErrors.{applied_fine}
-use Rattle.cedar_grammar.proofs.HeldSlots.{principal_free, resource_free, condition_free}
+use Rattle.cedar_grammar.proofs.HeldSlots.{principal_free, resource_free, condition_free, none_left}
 use Rattle.cedar_world.specs.Again.{standing_again}
 use Rattle.cedar_world.specs.Lookups.{calls_among, finds_all, IsFoundAnswer, FoundAnswers, FindsFunctions, EarlyTextsFindFunctions}
 use Rattle.cedar_world.proofs.CallsLeft.{AnyKind, IsKept, AreKeptLeaves, Keeps, kept}
@@ -58,13 +59,11 @@ module _ (facts : Facts) where
 
   to_found : (p : Answer) → IsKept true there NoLookup p → IsFoundAnswer facts p
   to_found (Evaluated v) h = tt
-  to_found (ResidualTree t) h = h
-  to_found (Failed k) h = h
+  to_found _ h = h
 
   of_found : (p : Answer) → IsFoundAnswer facts p → IsKept true there NoLookup p
   of_found (Evaluated v) h = tt
-  of_found (ResidualTree t) h = h
-  of_found (Failed k) h = h
+  of_found _ h = h
 
 -- where ordinary errors are fine, with functions that are there
 module _ (slotted : Bool) (IsFine : Kind → Type 0) (facts : Facts) (fine : (k : Kind) → IsOrdinary k → IsFine k) (constructs : IsSome (facts.function the_constructor)) where
@@ -142,9 +141,8 @@ module _ (slotted : Bool) (IsFine : Kind → Type 0) (facts : Facts) (fine : (k 
   -- what is taken up again calls what was called
   again_calls : (p : Answer) → IsKept slotted (there facts) IsFine p → calls_among slotted (there facts) (condition_again p) ≡ true
   again_calls (Evaluated (Plain (Boolean true))) h = refl
-  again_calls (Evaluated _) h = refl
   again_calls (ResidualTree t) h = h
-  again_calls (Failed k) h = refl
+  again_calls _ h = refl
 
 module _ (facts : Facts) (constructs : IsSome (facts.function the_constructor)) (q : Question) (calls : ContextCalls true (there facts) q.context) where
   slot_found : (o : Option Uid) → IsKept true (there facts) NoLookup (answer_of (slot_outcome o))
@@ -197,6 +195,10 @@ module _ (facts : Facts) (constructs : IsSome (facts.function the_constructor)) 
 
 -- ---- policies of a text
 
+still_some : {A : Type 0} (b : Bool) (x : A) (o : Option A) → is_some o ≡ true → is_some (cond b (Some x) o) ≡ true
+still_some true x o h = refl
+still_some false x o h = h
+
 module _ (by : Setting) {entities : Entities} (facts : Facts) (are : AreFacts by.functions entities facts) where
   -- what the table answers is there, and so is the constructor
   pub answered_there : (name : Name) → is_answered by.functions name ≡ true → there facts name ≡ true
@@ -232,3 +234,21 @@ early_texts_find_functions links calls by entities facts are text ss reads s amo
       policy_finds facts (constructor_there by facts are) q context told s finds,
       λ b. policy_finds facts (constructor_there by facts are) q context told (linked b s) (links_find links facts b s finds),
     )
+
+-- ---- where all is known
+
+meant_fine : (facts : Facts) (o : Outcome) → IsKept false (there facts) IsOrdinary (answer_of o) → ErrsOrdinarily o
+meant_fine facts (Gives v) h = tt
+meant_fine facts (Fails k) h = h
+
+-- what a known request means is what is answered, and no slot is left once a policy is linked
+pub texts_err_ordinarily : KnownIsMeaning → LinksAreStatic → LinkConditions → ((by : Setting) → CallsAreFound by) → TextsErrOrdinarily
+texts_err_ordinarily meaning static links calls by entities facts are text ss reads s among b exact request =
+    let p = linked b s in
+    let finds = links_find links facts b s (texts_find by facts are (calls by) text ss reads s (contained ss s among)) in
+    let asked = request_at request (λ s. None) in
+    meant_fine facts _
+    (subst (IsKept false (there facts) IsOrdinary) (meaning facts asked (condition p))
+    (answer_fine false IsOrdinary facts (λ k o. o) (constructor_there by facts are) (leaf_answers_of asked)
+    (record { variable = λ v. tt; unknown = λ n ty. tt; slot = λ e s. no_slot_stands e }) (condition p)
+    (without_slots (there facts) (condition p) (condition_free p (none_left (slots p) (static b s exact))) finds)))

@@ -6,7 +6,7 @@ use Rattle.std.proofs.lemmas.Cmp.{nat_list_eq_equiv, lists_equiv}
 use Rattle.std.specs.Cmp.{IsEquivalence}
 use Rattle.std.specs.Cmp.Lexicographic.{pointwise_decides, bytes_decides}
 use Rattle.cedar_language.specs.Uid.{Text, Name}
-use Rattle.cedar_language.specs.Tree.{String, Operator, Call, Tree, Lit, Var, Slot, Unknown, If, And, Or, Apply, Trees, no_trees, a_tree}
+use Rattle.cedar_language.specs.Tree.{String, Operator, Call, Tree, Lit, Unknown, If, And, Or, Apply, Trees, no_trees, a_tree}
 use Rattle.cedar_language.specs.Facts.{Function}
 use Rattle.cedar_language.specs.Constructing.{the_constructor, is_the_constructor, constructor_function}
 use Rattle.cedar_grammar.specs.Calls.{is_method, is_in_table, calls_none_but, calls_only, all_call_only, ExprsCallTheTable, ConditionsCallTheTable}
@@ -133,9 +133,6 @@ module _ (f g : Name → Bool) (more : (name : Name) → f name ≡ true → g n
 
   mutual
     calls_still : (t : Tree) → calls_only f t ≡ true → calls_only g t ≡ true
-    calls_still (Lit l) h = refl
-    calls_still (Var v) h = refl
-    calls_still (Slot s) h = refl
     calls_still (Unknown n ty) h = h
     calls_still (If t y n) h =
         let rest = (and_parts (calls_only f t) _ h).1 in
@@ -144,6 +141,7 @@ module _ (f g : Name → Bool) (more : (name : Name) → f name ≡ true → g n
     calls_still (And l r) h = and_from (calls_only g l) _ (calls_still l (and_parts (calls_only f l) _ h).0) (calls_still r (and_parts (calls_only f l) _ h).1)
     calls_still (Or l r) h = and_from (calls_only g l) _ (calls_still l (and_parts (calls_only f l) _ h).0) (calls_still r (and_parts (calls_only f l) _ h).1)
     calls_still (Apply op ts) h = and_from (calls_none_but g op) _ (operator_still op (and_parts (calls_none_but f op) _ h).0) (all_still ts (and_parts (calls_none_but f op) _ h).1)
+    calls_still _ h = refl
 
     all_still : (ts : Trees) → all_call_only f ts ≡ true → all_call_only g ts ≡ true
     all_still no_trees h = refl
@@ -201,14 +199,13 @@ calls_are_found exprs conditions by = record {
 -- ---- the unknowns of data
 
 named_applied : (op : Operator) (ts : Trees) → named (Apply op ts) ≡ read_call op (all_named ts)
-named_applied (Call f) no_trees = refl
 named_applied (Call f) (a_tree t ts) = by_name (is_the_unknown f) (named t) (all_named ts)
   where
     by_name : (b : Bool) (u : Tree) (us : Trees) → unknown_or b f u us ≡ unknown_or_call b f u us
     by_name true (Lit (String n)) no_trees = refl
     by_name true u us = refl
     by_name false u us = refl
-named_applied op ts = refl
+named_applied _ _ = refl
 
 pub names_are_read : UnknownsAreRead → NamesAreRead
 names_are_read law t h =

@@ -3,7 +3,7 @@ use Rattle.std.proofs.Common.{◌≡◌, ◌⊎◌, inl, inr, Option, Some, None
 use Rattle.std.specs.FinMap as finite
 use Rattle.std.specs.Option.{option_or}
 use Rattle.std.proofs.lemmas.List.Elements.{All-contains}
-use Rattle.cedar_language.specs.Value.{Kind, FailedExtensionFunctionLookup, UnlinkedSlot}
+use Rattle.cedar_language.specs.Value.{Kind, FailedExtensionFunctionLookup}
 use Rattle.cedar_language.specs.Answering.{Standing, Judged}
 use Rattle.cedar_world.specs.Answer.{Answer}
 use Rattle.cedar_world.specs.KnownKinds.{IsOrdinary, IsFound}
@@ -34,8 +34,7 @@ all_fine IsFine last new answer joined old now id k e = of_either (either (finit
 
 pub ordinary_found : (k : Kind) → IsOrdinary k → IsFound k
 ordinary_found FailedExtensionFunctionLookup h = h
-ordinary_found UnlinkedSlot h = tt
-ordinary_found k h = tt
+ordinary_found _ h = tt
 
 pub answers_err_ordinarily : PoliciesInForceErrOrdinarily → WorldsHaveFacts → AnswersErrOrdinarily
 answers_err_ordinarily ordinary exist = record {

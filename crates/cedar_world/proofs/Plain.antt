@@ -1,5 +1,5 @@
 -- Where scopes alone decide.
-use Rattle.std.proofs.Common.{◌≡◌, Bool, inl, inr, true, false, Option, Some, None, List, [], map, refl, sym, ap, ◌∙◌, subst, is_some}
+use Rattle.std.proofs.Common.{◌≡◌, Bool, inl, inr, true, false, Option, Some, List, [], map, refl, sym, ap, ◌∙◌, subst, is_some}
 use Rattle.cedar_world.specs.Question.{IsKnown}
 use Rattle.cedar_world.specs.Orders.{text_cmp}
 use Rattle.cedar_world.specs.Fillings.{IsFilling}
@@ -13,14 +13,14 @@ use Rattle.cedar_language.specs.Facts.{Facts}
 use Rattle.cedar_language.specs.Operators.{is_within}
 use Rattle.cedar_language.specs.Answering.{Erring, Judged}
 use Rattle.cedar_language.specs.Authorization.{Known}
-use Rattle.cedar_partial_evaluation.specs.Mentions.{is_given, is_known, KnownTreesSettle}
+use Rattle.cedar_partial_evaluation.specs.Mentions.{is_given, is_known}
 use Rattle.cedar_grammar.specs.Syntax.{PolicySyntax}
 use Rattle.cedar_world.specs.World.{World, in_force_at}
 use Rattle.cedar_world.specs.Asking.{Part, Given, Missing, Entries, WithEntries, Question}
 use Rattle.cedar_world.specs.Setting.{Setting}
 use Rattle.cedar_world.specs.Standing.{StandsSoFar, IsJudged, Judges, ErrOnce}
 use Rattle.cedar_world.specs.WorldFacts.{AreFactsOf, facts_of}
-use Rattle.cedar_world.specs.First.{IsData, HasRequest, NamesNoUnknown}
+use Rattle.cedar_world.specs.First.{IsData, HasRequest, NamesNoUnknown, FirstAnswersStand}
 use Rattle.cedar_world.specs.Scope.{scope_known, standing_met}
 use Rattle.cedar_world.specs.InForce.{AreInForce}
 use Rattle.cedar_world.specs.Plain.{HasScopesAlone, HasNoEntries, judged_by_scope, AnswersByScope, ScopesAnswer}
@@ -29,7 +29,6 @@ use Rattle.cedar_world.proofs.Ids.{the_value, answers_are_made}
 use Rattle.cedar_world.proofs.WorldFacts.{worlds_have_facts}
 use Rattle.cedar_world.proofs.Leaves.{all_known}
 use Rattle.cedar_world.proofs.Scope.{scopes_settle}
-use Rattle.cedar_world.proofs.First.{first_answers_stand}
 
 is_data : (c : Entries) → HasNoEntries c → IsData c
 is_data c (inl e) = subst IsData (sym e) tt
@@ -84,23 +83,22 @@ module _ (by : Setting) (world : World) (facts : Facts) (are : AreFactsOf by wor
   names_nothing : NamesNoUnknown world
   names_nothing id s h = scopes_settle.names_nothing s (alone.bodies id s h)
 
-with_entities : KnownTreesSettle → (by : Setting) (world : World) (facts : Facts) (q : Question) (ps : List (Text × PolicySyntax)) → AreFactsOf by world facts → HasScopesAlone world → HasNoEntries q.context → AreInForce world ps →
+with_entities : FirstAnswersStand → (by : Setting) (world : World) (facts : Facts) (q : Question) (ps : List (Text × PolicySyntax)) → AreFactsOf by world facts → HasScopesAlone world → HasNoEntries q.context → AreInForce world ps →
     AnswersByScope by world q ps (is_within facts)
-with_entities settle by world facts q ps are alone no_entries listed answer says =
-    first_answers_stand settle by world facts q (map (judged_by_scope (is_within facts) q) ps) answer are (names_nothing by world facts are alone q) (is_data q.context no_entries)
+with_entities stand by world facts q ps are alone no_entries listed answer says =
+    stand by world facts q (map (judged_by_scope (is_within facts) q) ps) answer are (names_nothing by world facts are alone q) (is_data q.context no_entries)
     (has_request by q no_entries) (judges by world facts are alone q ps listed) says
 
-without_entities : KnownTreesSettle → (by : Setting) (world : World) (q : Question) (ps : List (Text × PolicySyntax)) → world.entities ≡ finite.empty → HasScopesAlone world → HasNoEntries q.context → AreInForce world ps →
+without_entities : FirstAnswersStand → (by : Setting) (world : World) (q : Question) (ps : List (Text × PolicySyntax)) → world.entities ≡ finite.empty → HasScopesAlone world → HasNoEntries q.context → AreInForce world ps →
     AnswersByScope by world q ps same_uid
-without_entities settle by world q ps none alone no_entries listed =
+without_entities stand by world q ps none alone no_entries listed =
     let are : AreFactsOf by world (facts_of by world) = worlds_have_facts.exist by world in
     let is : is_within (facts_of by world) ≡ same_uid = scopes_settle.is_equality (facts_of by world) (worlds_have_facts.nothing_reached by world (facts_of by world) are none) in
-    subst (AnswersByScope by world q ps) is (with_entities settle by world (facts_of by world) q ps are alone no_entries listed)
+    subst (AnswersByScope by world q ps) is (with_entities stand by world (facts_of by world) q ps are alone no_entries listed)
 
 not_erring : (o : Option Bool) (k : Kind) → standing_met o ≡ Erring k → ⊥
 not_erring (Some true) k h = cc
-not_erring (Some false) k h = cc
-not_erring None k h = cc
+not_erring _ k h = cc
 
 -- no policy errs by its scope
 none_errs : (is_in : Uid → Uid → Bool) (q : Question) (ps : List (Text × PolicySyntax)) → ErrOnce (map (judged_by_scope is_in q) ps)
@@ -108,11 +106,11 @@ none_errs is_in q ps id k l x y =
     let (p, among, is) = unmapped (judged_by_scope is_in q) ps x.0 (contained (map (judged_by_scope is_in q) ps) x.0 x.1) in
     absurd (not_erring (scope_known is_in p.1 q) k (ap (λ (j : Judged). j.standing) is ∙ x.3))
 
-pub scopes_answer : KnownTreesSettle → ScopesAnswer
-scopes_answer settle = record {
+pub scopes_answer : FirstAnswersStand → ScopesAnswer
+scopes_answer stand = record {
   data_alone = is_data;
   request = has_request;
-  with_entities = with_entities settle;
-  without_entities = without_entities settle;
+  with_entities = with_entities stand;
+  without_entities = without_entities stand;
   made = λ is_in q ps. answers_are_made (map (judged_by_scope is_in q) ps) (none_errs is_in q ps);
 }

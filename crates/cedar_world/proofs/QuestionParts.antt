@@ -1,9 +1,9 @@
 -- What passes of a body passes of the context of the question that it asks.
-use Rattle.std.proofs.Common.{◌≡◌, Bool, true, false, cond, Option, Some, None, List, [], ◌∷◌, refl, subst}
+use Rattle.std.proofs.Common.{◌≡◌, Bool, true, false, cond, Option, Some, None, List, ◌∷◌, refl, subst}
 use Rattle.std.specs.Option.{unwrap_or}
 use lib.Chars.{codes}
 use Rattle.cedar_language.specs.Uid.{Text}
-use Rattle.cedar_language.specs.Tree.{MakeRecord, Tree, Apply, Trees, no_trees, a_tree}
+use Rattle.cedar_language.specs.Tree.{MakeRecord, Tree, Apply, Trees, a_tree}
 use Rattle.cedar_grammar.specs.UnknownCalls.{all_named}
 use Rattle.cedar_world.specs.Asking.{Part, Entries, NoContext, WithEntries, Question}
 use Rattle.cedar_world.specs.Bodies.{Fields, zipped, found, if_there, entries_of, question_with, question_fields, question_keys, are_among, ask_body}
@@ -27,11 +27,10 @@ module _ (Passes : Tree → Type 0) (AllPass : Trees → Type 0) (parts : (t : T
   one_passes false t o h k = k
 
   field_passes : (key : Text) (ks : List Text) (ts : Trees) → AllPass ts → OnePasses (found key (zipped ks ts))
-  field_passes key [] ts h = tt
-  field_passes key (k ∷ ks) no_trees h = tt
   field_passes key (k ∷ ks) (a_tree t ts) h =
       let (ht, hts) = parts t ts h in
       one_passes (text_eq key k) t (found key (zipped ks ts)) ht (field_passes key ks ts hts)
+  field_passes key _ _ h = tt
 
   optional_passes : (o : Option Tree) (c : Option Entries) → OnePasses o → if_there entries_of o ≡ Some c → ContextPasses AllPass (unwrap_or c NoContext)
   optional_passes None c h is = let same : None ≡ c = cc in subst (λ x. ContextPasses AllPass (unwrap_or x NoContext)) same tt
@@ -43,10 +42,7 @@ module _ (Passes : Tree → Type 0) (AllPass : Trees → Type 0) (parts : (t : T
   with_parts : (p a r : Option Part) (c : Option (Option Entries)) (q : Question) → question_with p a r c ≡ Some q
       → ((e : Option Entries) → c ≡ Some e → ContextPasses AllPass (unwrap_or e NoContext)) → ContextPasses AllPass q.context
   with_parts (Some p) (Some a) (Some r) (Some c) q is h = subst (λ (x : Question). ContextPasses AllPass x.context) (same_some _ q is) (h c refl)
-  with_parts (Some p) (Some a) (Some r) None q is h = cc
-  with_parts (Some p) (Some a) None c q is h = cc
-  with_parts (Some p) None r c q is h = cc
-  with_parts None a r c q is h = cc
+  with_parts _ _ _ _ q is h = cc
 
   if_among : (b : Bool) (fs : Fields) (q : Question) → cond b (question_fields fs) None ≡ Some q → question_fields fs ≡ Some q
   if_among true fs q h = h

@@ -2,81 +2,34 @@
 use Rattle.std.proofs.Common.{◌≡◌, ◌⊎◌, inl, inr, ℕ, ◌+◌, List, [], ◌∷◌, ◌++◌, length, append_assoc, append-nil, length-append, refl, sym, ◌∙◌, ap, subst, arith}
 use Rattle.cedar_language.specs.Uid.{Text}
 use Rattle.cedar_frames.specs.Frames.{AreFrames}
-use Rattle.cedar_world.specs.World.{World, IsCyclic}
+use Rattle.cedar_world.specs.World.{World}
 use Rattle.cedar_world.specs.Setting.{Setting}
 use Rattle.cedar_world.specs.Answer.{Answer}
 use Rattle.cedar_world.specs.Commands.{Verb, Ask, Reply, Answered, NotUtf8, Memory}
 use Rattle.cedar_world.specs.Lines.{line_of, lines_of}
-use Rattle.cedar_world.specs.LinkLaws.{LinksAreWhole}
 use Rattle.cedar_world.specs.Lookups.{ClausesHoldNoSlot, NamesFoundErrors, NamesOrdinaryErrors}
 use Rattle.cedar_world.specs.OrdinaryReplies.{AnswersToldOrdinarily, RepliesOrdinarily}
 use Rattle.cedar_world.specs.Session.{Command, Edited, EditsPolicies, EditsEntities, IsReached}
 use Rattle.cedar_world.specs.RunText.{FrameStep, Ran, Start, Turn}
 use Rattle.cedar_world.specs.RunLaws.{commands_of, replies_of, AnswersFrames, no_frame, a_frame, GoesOn, RunsAreAnsweredByTheRules}
-use Rattle.cedar_world.proofs.Session.{policies_stay, edits_policies, entities_stay, edits_entities, from_reached}
-use Rattle.cedar_world.proofs.Cycles.{cycles_stay_out}
-use Rattle.cedar_world.proofs.WholeLinks.{links_stay_whole}
+use Rattle.cedar_world.proofs.Session.{Keeps, Kept, unmoved, stepped, none_kept, one_kept, from_reached}
 use Rattle.cedar_world.proofs.Runs.{frames_more}
 use Rattle.cedar_world.proofs.OrdinaryAnswers.{ordinary_found}
 
 -- ---- one frame
 
-module _ (by : Setting) (old new : World) (verb : Verb) (body : Text) (reply : Reply) where
-  -- a frame that no command came of leaves the world
-  frame_policies : FrameStep by old verb body reply new → EditsPolicies by old.policies verb body reply new.policies
-  frame_policies (inl h) =
-      subst (λ r. EditsPolicies by old.policies verb body r new.policies) (sym h.1)
-      (policies_stay by old.policies new.policies verb body Memory (ap (λ w. w.policies) h.2))
-  frame_policies (inr (inl h)) =
-      subst (λ r. EditsPolicies by old.policies verb body r new.policies) (sym h.1)
-      (policies_stay by old.policies new.policies verb body NotUtf8 (ap (λ w. w.policies) h.2))
-  frame_policies (inr (inr h)) = edits_policies by old new verb body reply h.1
-
-  frame_entities : FrameStep by old verb body reply new → EditsEntities by old.entities verb body reply new.entities
-  frame_entities (inl h) =
-      subst (λ r. EditsEntities by old.entities verb body r new.entities) (sym h.1)
-      (entities_stay by old.entities new.entities verb body Memory (ap (λ w. w.entities) h.2))
-  frame_entities (inr (inl h)) =
-      subst (λ r. EditsEntities by old.entities verb body r new.entities) (sym h.1)
-      (entities_stay by old.entities new.entities verb body NotUtf8 (ap (λ w. w.entities) h.2))
-  frame_entities (inr (inr h)) = edits_entities by old new verb body reply h.1
-
-  frame_links : FrameStep by old verb body reply new → LinksAreWhole old.policies → LinksAreWhole new.policies
-  frame_links (inl h) whole = subst (λ (w : World). LinksAreWhole w.policies) (sym h.2) whole
-  frame_links (inr (inl h)) whole = subst (λ (w : World). LinksAreWhole w.policies) (sym h.2) whole
-  frame_links (inr (inr h)) whole = links_stay_whole by old new verb body reply h.1 whole
-
-  frame_cycles : FrameStep by old verb body reply new → (IsCyclic old.entities → ⊥) → IsCyclic new.entities → ⊥
-  frame_cycles (inl h) none cycle = none (subst (λ (w : World). IsCyclic w.entities) h.2 cycle)
-  frame_cycles (inr (inl h)) none cycle = none (subst (λ (w : World). IsCyclic w.entities) h.2 cycle)
-  frame_cycles (inr (inr h)) none cycle = cycles_stay_out by old new verb body reply h.1 none cycle
+-- a frame that no command came of leaves the world
+frame_keeps : (by : Setting) (old new : World) (verb : Verb) (body : Text) (reply : Reply) → FrameStep by old verb body reply new → Keeps by old new verb body reply
+frame_keeps by old new verb body reply (inl h) = subst (Keeps by old new verb body) (sym h.1) (unmoved by old new verb body Memory h.2)
+frame_keeps by old new verb body reply (inr (inl h)) = subst (Keeps by old new verb body) (sym h.1) (unmoved by old new verb body NotUtf8 h.2)
+frame_keeps by old new verb body reply (inr (inr h)) = stepped by old new verb body reply h.1
 
 -- ---- frames, one after the other
 
 module _ (by : Setting) where
-  policies_after : {start end : World} {commands : List Command} {replies : List Reply}
-      → AnswersFrames by start commands replies end → Edited (EditsPolicies by) start.policies commands replies end.policies
-  policies_after no_frame = refl
-  policies_after (a_frame {old = old} {mid = mid} {verb = verb} {body = body} {reply = reply} step more) =
-      (mid.policies, frame_policies by old mid verb body reply step, policies_after more)
-
-  entities_after : {start end : World} {commands : List Command} {replies : List Reply}
-      → AnswersFrames by start commands replies end → Edited (EditsEntities by) start.entities commands replies end.entities
-  entities_after no_frame = refl
-  entities_after (a_frame {old = old} {mid = mid} {verb = verb} {body = body} {reply = reply} step more) =
-      (mid.entities, frame_entities by old mid verb body reply step, entities_after more)
-
-  links_after : {start end : World} {commands : List Command} {replies : List Reply}
-      → AnswersFrames by start commands replies end → LinksAreWhole start.policies → LinksAreWhole end.policies
-  links_after no_frame whole = whole
-  links_after (a_frame {old = old} {mid = mid} {verb = verb} {body = body} {reply = reply} step more) whole =
-      links_after more (frame_links by old mid verb body reply step whole)
-
-  no_cycle_after : {start end : World} {commands : List Command} {replies : List Reply}
-      → AnswersFrames by start commands replies end → (IsCyclic start.entities → ⊥) → IsCyclic end.entities → ⊥
-  no_cycle_after no_frame none = none
-  no_cycle_after (a_frame {old = old} {mid = mid} {verb = verb} {body = body} {reply = reply} step more) none =
-      no_cycle_after more (frame_cycles by old mid verb body reply step none)
+  kept : {start end : World} {commands : List Command} {replies : List Reply} → AnswersFrames by start commands replies end → Kept by start end commands replies
+  kept no_frame = none_kept by _
+  kept (a_frame {old = old} {mid = mid} {verb = verb} {body = body} {reply = reply} step more) = one_kept by old mid _ verb body reply _ _ (frame_keeps by old mid verb body reply step) (kept more)
 
   frames_on : {start mid new : World} {commands : List Command} {replies : List Reply} (verb : Verb) (body : Text) (reply : Reply)
       → AnswersFrames by start commands replies mid → FrameStep by mid verb body reply new
@@ -99,11 +52,10 @@ module _ (by : Setting) where
       → AnswersFrames by start (before ++ (verb, body) ∷ after) (told ++ reply ∷ left) end
       → (old new : World) × AnswersFrames by start before told old × FrameStep by old verb body reply new × AnswersFrames by new after left end
   frame_among end verb body reply after left [] [] e start (a_frame {mid = mid} step more) = (start, mid, no_frame, step, more)
-  frame_among end verb body reply after left [] (r ∷ rs) e start answers = absurd (omega (arith, e))
-  frame_among end verb body reply after left (c ∷ cs) [] e start answers = absurd (omega (arith, e))
   frame_among end verb body reply after left (c ∷ cs) (r ∷ rs) e start (a_frame {mid = mid} step more) =
       let rest = frame_among end verb body reply after left cs rs (omega (arith, e)) mid more in
       (rest.0, rest.1, a_frame step rest.2, rest.3, rest.4)
+  frame_among end verb body reply after left _ _ e start answers = absurd (omega (arith, e))
 
   pub parted : (start end : World) (verb : Verb) (body : Text) (reply : Reply) (commands before after : List Command) (replies told left : List Reply)
       → commands ≡ before ++ (verb, body) ∷ after → replies ≡ told ++ reply ∷ left → AnswersFrames by start commands replies end
@@ -135,19 +87,20 @@ module _ (by : Setting) (old : World) (commands : List Command) (replies : List 
 edited_on : {X : Type 0} (Edits : X → Verb → Text → Reply → X → Type 0) (old mid new : X) (commands others : List Command) (replies more : List Reply)
     → Edited Edits old commands replies mid → Edited Edits mid others more new → Edited Edits old (commands ++ others) (replies ++ more) new
 edited_on Edits old mid new [] others [] more done edit = subst (λ x. Edited Edits x others more new) done edit
-edited_on Edits old mid new [] others (r ∷ rs) more done edit = absurd done
-edited_on Edits old mid new (c ∷ cs) others [] more done edit = absurd done
 edited_on Edits old mid new (c ∷ cs) others (r ∷ rs) more done edit = (done.0, done.1, edited_on Edits done.0 mid new cs others rs more done.2 edit)
+edited_on Edits old mid new _ others _ more done edit = absurd done
 
 module _ (by : Setting) (before : List Command) (said : List Reply) (start : World) (reached : IsReached by before said start) where
   pub reached_on : (commands : List Command) (replies : List Reply) (world : World) → AnswersFrames by start commands replies world
       → IsReached by (before ++ commands) (said ++ replies) world
-  reached_on commands replies world answers = record {
-    policies = edited_on (EditsPolicies by) _ start.policies world.policies before commands said replies reached.policies (policies_after by answers);
-    entities = edited_on (EditsEntities by) _ start.entities world.entities before commands said replies reached.entities (entities_after by answers);
-    links = links_after by answers reached.links;
-    no_cycle = no_cycle_after by answers reached.no_cycle;
-  }
+  reached_on commands replies world answers =
+      let more = kept by answers in
+      record {
+        policies = edited_on (EditsPolicies by) _ start.policies world.policies before commands said replies reached.policies more.policies;
+        entities = edited_on (EditsEntities by) _ start.entities world.entities before commands said replies reached.entities more.entities;
+        links = more.links reached.links;
+        no_cycle = more.no_cycle reached.no_cycle;
+      }
 
   goes_on : (commands : List Command) (replies : List Reply) (world : World) → AnswersFrames by start commands replies world
       → GoesOn by before said start commands replies world

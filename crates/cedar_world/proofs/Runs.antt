@@ -27,32 +27,20 @@ ran_frames (Turn {n = n} {bytes = bytes} {frame = frame} {body = body} {verb = v
 -- ---- where a run ends no frame stands
 
 too_many_or_not : (fault : Fault) → (fault ≡ TooMany) ⊎ (fault ≢ TooMany)
-too_many_or_not BadHead = inr (λ e. cc)
-too_many_or_not TooLong = inr (λ e. cc)
-too_many_or_not Truncated = inr (λ e. cc)
-too_many_or_not NoLineFeed = inr (λ e. cc)
 too_many_or_not TooMany = inl refl
+too_many_or_not _ = inr (λ e. cc)
 
 fault_shown : (n : ℕ) (fault : Fault) (tail : List ℕ) → Ends n (Faulty fault) tail → IsFault fault tail
 fault_shown n BadHead tail h = h.1
-fault_shown n TooLong tail h = h.1
-fault_shown n Truncated tail h = h.1
-fault_shown n NoLineFeed tail h = h.1
-fault_shown n TooMany tail h = h.1
+fault_shown n _ tail h = h.1
 
 countable : (n : ℕ) (fault : Fault) (tail : List ℕ) → Ends n (Faulty fault) tail → fault ≢ TooMany → n < most_frames
-countable n BadHead tail h other = h.0
-countable n TooLong tail h other = h.0
-countable n Truncated tail h other = h.0
-countable n NoLineFeed tail h other = h.0
 countable n TooMany tail h other = absurd (other refl)
+countable n _ tail h other = h.0
 
 nothing_left : (fault : Fault) (left : List ℕ) → Leaves (Faulty fault) left → fault ≡ Truncated → left ≡ []
-nothing_left BadHead left h e = absurd (cc)
-nothing_left TooLong left h e = absurd (cc)
 nothing_left Truncated left h e = h
-nothing_left NoLineFeed left h e = absurd (cc)
-nothing_left TooMany left h e = absurd (cc)
+nothing_left _ left h e = absurd (cc)
 
 not_empty : (front rest : List ℕ) (byte : ℕ) → front ++ byte ∷ [] ≡ [] → ⊥
 not_empty [] rest byte e = cc
@@ -95,11 +83,10 @@ no_front [] ys e = refl
 no_front (x ∷ xs) ys e = absurd (cc)
 
 one_byte : (tail tail' left left' : List ℕ) → length tail ≡ 1 → length tail' ≡ 1 → tail ++ left ≡ tail' ++ left' → tail ≡ tail'
-one_byte [] tail' left left' p q e = absurd (omega (arith, p))
-one_byte (x ∷ y ∷ xs) tail' left left' p q e = absurd (omega (arith, p))
 one_byte (x ∷ []) [] left left' p q e = absurd (omega (arith, q))
 one_byte (x ∷ []) (y ∷ z ∷ ys) left left' p q e = absurd (omega (arith, q))
 one_byte (x ∷ []) (y ∷ []) left left' p q e = cc
+one_byte _ tail' left left' p q e = absurd (omega (arith, p))
 
 module _ (faults_one : FaultsAreOne) where
   faults_end_one : (n : ℕ) (fault other : Fault) (tail tail' left left' : List ℕ) → Ends n (Faulty fault) tail → Ends n (Faulty other) tail' → Leaves (Faulty fault) left → Leaves (Faulty other) left'

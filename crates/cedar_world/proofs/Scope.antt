@@ -51,9 +51,7 @@ known None = Open
 
 and_known : (o p : Option Bool) → and_settled (known o) (known p) ≡ known (and_then_met o p)
 and_known (Some true) (Some b) = refl
-and_known (Some true) None = refl
-and_known (Some false) p = refl
-and_known None p = refl
+and_known _ _ = refl
 
 and_both_known : (a b : Bool) → and_settled (known (Some a)) (known (Some b)) ≡ known (Some (a && b))
 and_both_known true b = refl
@@ -76,9 +74,7 @@ module _ (facts : Facts) (around : LeafSettlings) (v : Variable) where
   constraint_given slot (within (the_entity x)) u h e = rw e refl
   constraint_given slot (of_type name) u h e = rw e refl
   constraint_given slot (of_type_within name (the_entity x)) u h e = rw e (and_both_known (same_name u.type_name name) (is_within facts u x))
-  constraint_given slot (equals the_slot) u h e = cc
-  constraint_given slot (within the_slot) u h e = cc
-  constraint_given slot (of_type_within name the_slot) u h e = cc
+  constraint_given slot _ u h e = cc
 
   equal_missing : (x : Uid) (type : Option Name) → around.variable v ≡ Open → around.variable_type v ≡ type →
       settled_in facts around (constraint_tree v PrincipalSlot (equals (the_entity x))) ≡ known (by_type (equals (the_entity x)) type)
@@ -94,18 +90,13 @@ module _ (facts : Facts) (around : LeafSettlings) (v : Variable) where
   constraint_missing slot (of_type name) None h e t = rw (e, t) refl
   constraint_missing slot (of_type_within name (the_entity x)) (Some ty) h e t = rw (e, t) (within_stated (same_name ty name))
   constraint_missing slot (of_type_within name (the_entity x)) None h e t = rw (e, t) refl
-  constraint_missing slot (equals the_slot) type h e t = cc
-  constraint_missing slot (within the_slot) type h e t = cc
-  constraint_missing slot (of_type_within name the_slot) type h e t = cc
+  constraint_missing slot _ type h e t = cc
 
   constraint_settled : (slot : SlotId) (c : Constraint) (part : Part) → constraint_slots slot c ≡ [] → around.variable v ≡ part_settled part None → around.variable_type v ≡ part_type part None →
       settled_in facts around (constraint_tree v slot c) ≡ known (known_of (is_within facts) c part)
   constraint_settled slot anything (Given u) h e t = refl
-  constraint_settled slot (equals x) (Given u) h e t = constraint_given slot (equals x) u h e
-  constraint_settled slot (within x) (Given u) h e t = constraint_given slot (within x) u h e
-  constraint_settled slot (of_type name) (Given u) h e t = constraint_given slot (of_type name) u h e
-  constraint_settled slot (of_type_within name x) (Given u) h e t = constraint_given slot (of_type_within name x) u h e
   constraint_settled slot c (Missing type) h e t = constraint_missing slot c type h e t
+  constraint_settled slot c (Given u) h e t = constraint_given slot c u h e
 
 module _ (facts : Facts) (around : LeafSettlings) where
   action_given : (c : ActionConstraint) (u : Uid) → around.variable Action ≡ Is (Plain (Entity u)) → settled_in facts around (action_tree c) ≡ known (action_met (is_within facts) c (Given u))
@@ -168,22 +159,14 @@ module _ (facts : Facts) (around : LeafSettlings) where
     constraint_met : (c : Constraint) (part : Part) → constraint_slots slot c ≡ [] → ((u : Uid) → part ≡ Given u → around.variable v ≡ Is (Plain (Entity u)))
         → (b : Bool) → met (is_within facts) c part ≡ Some b → settled_in facts around (constraint_tree v slot c) ≡ known (Some b)
     constraint_met anything part h given b e = ap known e
-    constraint_met (equals x) (Given u) h given b e = constraint_given facts around v slot (equals x) u h (given u refl) ∙ ap known e
-    constraint_met (within x) (Given u) h given b e = constraint_given facts around v slot (within x) u h (given u refl) ∙ ap known e
-    constraint_met (of_type name) (Given u) h given b e = constraint_given facts around v slot (of_type name) u h (given u refl) ∙ ap known e
-    constraint_met (of_type_within name x) (Given u) h given b e = constraint_given facts around v slot (of_type_within name x) u h (given u refl) ∙ ap known e
-    constraint_met (equals x) (Missing type) h given b e = cc
-    constraint_met (within x) (Missing type) h given b e = cc
-    constraint_met (of_type name) (Missing type) h given b e = cc
-    constraint_met (of_type_within name x) (Missing type) h given b e = cc
+    constraint_met c (Given u) h given b e = constraint_given facts around v slot c u h (given u refl) ∙ ap known e
+    constraint_met _ (Missing type) h given b e = cc
 
   action_is_met : (c : ActionConstraint) (part : Part) → ((u : Uid) → part ≡ Given u → around.variable Action ≡ Is (Plain (Entity u)))
       → (b : Bool) → action_met (is_within facts) c part ≡ Some b → settled_in facts around (action_tree c) ≡ known (Some b)
   action_is_met any_action part given b e = ap known e
-  action_is_met (action_equals x) (Given u) given b e = action_given facts around (action_equals x) u (given u refl) ∙ ap known e
-  action_is_met (action_within_any us) (Given u) given b e = action_given facts around (action_within_any us) u (given u refl) ∙ ap known e
-  action_is_met (action_equals x) (Missing type) given b e = cc
-  action_is_met (action_within_any us) (Missing type) given b e = cc
+  action_is_met c (Given u) given b e = action_given facts around c u (given u refl) ∙ ap known e
+  action_is_met _ (Missing type) given b e = cc
 
   both_met : (l r : Tree) (o p : Option Bool) → ((b : Bool) → o ≡ Some b → settled_in facts around l ≡ known (Some b)) → ((b : Bool) → p ≡ Some b → settled_in facts around r ≡ known (Some b))
       → (b : Bool) → and_then_met o p ≡ Some b → settled_in facts around (conjunction l r) ≡ known (Some b)
@@ -226,20 +209,18 @@ target_names slot (the_entity u) = refl
 target_names slot the_slot = refl
 
 constraint_names : (v : Variable) (slot : SlotId) (c : Constraint) → mentions_only (λ v. true) true (constraint_tree v slot c) ≡ true
-constraint_names v slot anything = refl
 constraint_names v slot (equals x) = rw (target_names slot x) refl
 constraint_names v slot (within x) = rw (target_names slot x) refl
-constraint_names v slot (of_type name) = refl
 constraint_names v slot (of_type_within name x) = rw (target_names slot x) refl
+constraint_names v slot _ = refl
 
 literals_name : (us : List Uid) → all_mention_only (λ v. true) true (trees (map (λ u. Lit (Entity u)) us)) ≡ true
 literals_name [] = refl
 literals_name (u ∷ us) = literals_name us
 
 action_names : (c : ActionConstraint) → mentions_only (λ v. true) true (action_tree c) ≡ true
-action_names any_action = refl
-action_names (action_equals u) = refl
 action_names (action_within_any us) = rw (literals_name us) refl
+action_names _ = refl
 
 names_nothing : (s : PolicySyntax) → s.body ≡ None → mentions_only (λ v. true) true (condition s) ≡ true
 names_nothing s none =

@@ -27,22 +27,19 @@ module _ (passes : Name → Bool) where
   -- a truth value, or a residual without slots
   abbrev pub IsTested : Answer → Type 0
   IsTested (Evaluated (Plain (Boolean b))) = Unit {0}
-  IsTested (Evaluated _) = ⊥
   IsTested (ResidualTree t) = calls_among false passes t ≡ true
-  IsTested (Failed k) = ⊥
+  IsTested _ = ⊥
 
   module _ (facts : Facts) where
     last_tested : (q : Answer) → IsTested q → IsTested (last_answer (And (Lit (Boolean true))) q)
     last_tested (Evaluated (Plain (Boolean b))) h = tt
     last_tested (Evaluated _) h = absurd h
-    last_tested (ResidualTree t) h = h
-    last_tested (Failed k) h = h
+    last_tested _ h = h
 
     best_tested : (q : Answer) (r : Tree) → IsTested q → calls_among false passes (best_effort facts q r) ≡ true
     best_tested (Evaluated (Plain (Boolean b))) r h = refl
-    best_tested (Evaluated _) r h = absurd h
     best_tested (ResidualTree t) r h = h
-    best_tested (Failed k) r h = absurd h
+    best_tested _ r h = absurd h
 
     and_tested : (p q : Answer) (r : Tree) → IsTested p → IsTested q → IsTested (and_answer facts p q r)
     and_tested (Evaluated (Plain (Boolean true))) q r h k = last_tested q k

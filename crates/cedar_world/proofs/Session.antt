@@ -1,14 +1,15 @@
 -- What holds after every list of commands.
-use Rattle.std.proofs.Common.{◌≡◌, List, [], ◌∷◌, ◌++◌, refl, sym, ◌∙◌, ap}
+use Rattle.std.proofs.Common.{◌≡◌, List, [], ◌∷◌, ◌++◌, refl, sym, ◌∙◌, ap, subst}
 use Rattle.std.specs.FinMap as map
 use Rattle.cedar_language.specs.Uid.{Text}
 use Rattle.cedar_world.specs.Orders.{text_cmp, uid_cmp}
-use Rattle.cedar_world.specs.World.{World, Policies, Entities, IsCyclic, parents_at, new_world}
+use Rattle.cedar_world.specs.World.{World, IsCyclic, parents_at, new_world}
 use Rattle.cedar_world.specs.Setting.{Setting}
-use Rattle.cedar_world.specs.Commands.{Verb, Load, Link, Unlink, RemoveStatic, RemoveTemplate, Add, Put, Remove, Ask, Tell, Refusal, Reply, Done, Named, Answered, Refused}
+use Rattle.cedar_world.specs.Commands.{Verb, Refusal, Reply, Refused}
 use Rattle.cedar_world.specs.Step.{Step}
 use Rattle.cedar_world.specs.LinkLaws.{LinksAreWhole}
 use Rattle.cedar_world.specs.Session.{Command, Edited, Answers, no_command, a_command, EditsPolicies, EditsEntities, IsReached, AreAnsweredByTheRules, CommandsAreAnsweredByTheRules, PartsAreAnswered}
+use Rattle.cedar_world.proofs.Steps.{policies_stay, edits_policies, entities_stay, edits_entities}
 use Rattle.cedar_world.proofs.Parts.{not_none}
 use Rattle.cedar_world.proofs.EntityRows.{no_edge, no_way}
 use Rattle.cedar_world.proofs.Cycles.{cycles_stay_out}
@@ -23,69 +24,57 @@ nothing_cyclic cycle = no_way (parents_at map.empty) (λ c e. no_edge map.empty 
 module _ (by : Setting) where
   -- ---- one command
 
-  pub policies_stay : (old new : Policies) (verb : Verb) (text : Text) (r : Refusal) → new ≡ old → EditsPolicies by old verb text (Refused r) new
-  policies_stay old new Load text r e = e
-  policies_stay old new verb text r e = e
+  -- what a step does to what is held
+  pub record Keeps (old new : World) (verb : Verb) (text : Text) (reply : Reply) : Type 0 where
+    policies : EditsPolicies by old.policies verb text reply new.policies
+    entities : EditsEntities by old.entities verb text reply new.entities
+    links : LinksAreWhole old.policies → LinksAreWhole new.policies
+    no_cycle : (IsCyclic old.entities → ⊥) → IsCyclic new.entities → ⊥
 
-  pub edits_policies : (old new : World) (verb : Verb) (text : Text) (reply : Reply) → Step by old verb text reply new → EditsPolicies by old.policies verb text reply new.policies
-  edits_policies old new verb text (Refused r) step = policies_stay old.policies new.policies verb text r (ap (λ w. w.policies) step.1)
-  edits_policies old new Load text (Named ids) step = (step.1.0, step.1.1, step.1.2.0)
-  edits_policies old new Link text Done step = (step.1.1, (step.1.0, step.1.2, step.1.3), step.1.4.0)
-  edits_policies old new Unlink text Done step = (step.1.1, (step.1.0, step.1.2, step.1.3), step.1.4.0)
-  edits_policies old new RemoveStatic text Done step = (step.1.1, (step.1.0, step.1.2, step.1.3), step.1.4.0)
-  edits_policies old new RemoveTemplate text Done step = (step.1.1, (step.1.0, step.1.2, step.1.3), step.1.4.0)
-  edits_policies old new Add text Done step = ap (λ w. w.policies) step.1.4.2.1
-  edits_policies old new Put text Done step = ap (λ w. w.policies) step.1.4.2.1
-  edits_policies old new Remove text Done step = ap (λ w. w.policies) step.1.4.1
-  edits_policies old new Ask text (Answered answer) step = ap (λ w. w.policies) step.1.4.1
-  edits_policies old new Tell text (Answered answer) step = ap (λ w. w.policies) step.1.4.5
-  edits_policies old new verb text reply step = absurd step.1
+  pub unmoved : (old new : World) (verb : Verb) (text : Text) (r : Refusal) → new ≡ old → Keeps old new verb text (Refused r)
+  unmoved old new verb text r e = record {
+    policies = policies_stay by old.policies new.policies verb text r (ap (λ w. w.policies) e);
+    entities = entities_stay by old.entities new.entities verb text r (ap (λ w. w.entities) e);
+    links = λ whole. subst (λ (w : World). LinksAreWhole w.policies) (sym e) whole;
+    no_cycle = λ none cycle. none (subst (λ (w : World). IsCyclic w.entities) e cycle);
+  }
 
-  pub entities_stay : (old new : Entities) (verb : Verb) (text : Text) (r : Refusal) → new ≡ old → EditsEntities by old verb text (Refused r) new
-  entities_stay old new Add text r e = e
-  entities_stay old new verb text r e = e
+  pub stepped : (old new : World) (verb : Verb) (text : Text) (reply : Reply) → Step by old verb text reply new → Keeps old new verb text reply
+  stepped old new verb text reply step = record {
+    policies = edits_policies by old new verb text reply step;
+    entities = edits_entities by old new verb text reply step;
+    links = links_stay_whole by old new verb text reply step;
+    no_cycle = cycles_stay_out by old new verb text reply step;
+  }
 
-  pub edits_entities : (old new : World) (verb : Verb) (text : Text) (reply : Reply) → Step by old verb text reply new → EditsEntities by old.entities verb text reply new.entities
-  edits_entities old new verb text (Refused r) step = entities_stay old.entities new.entities verb text r (ap (λ w. w.entities) step.1)
-  edits_entities old new Load text (Named ids) step = ap (λ w. w.entities) step.1.2.1
-  edits_entities old new Link text Done step = ap (λ w. w.entities) step.1.4.1
-  edits_entities old new Unlink text Done step = ap (λ w. w.entities) step.1.4.1
-  edits_entities old new RemoveStatic text Done step = ap (λ w. w.entities) step.1.4.1
-  edits_entities old new RemoveTemplate text Done step = ap (λ w. w.entities) step.1.4.1
-  edits_entities old new Add text Done step = (step.1.4.0, (step.1.1, (step.1.0, step.1.2, step.1.3), step.1.4.1), step.1.4.2.0)
-  edits_entities old new Put text Done step = (step.1.4.0, (step.1.1, (step.1.0, step.1.2, step.1.3), step.1.4.1), step.1.4.2.0)
-  edits_entities old new Remove text Done step = (step.1.1, (step.1.0, step.1.2, step.1.3), step.1.4.0)
-  edits_entities old new Ask text (Answered answer) step = ap (λ w. w.entities) step.1.4.1
-  edits_entities old new Tell text (Answered answer) step = ap (λ w. w.entities) step.1.4.5
-  edits_entities old new verb text reply step = absurd step.1
+  -- ---- steps, one after the other
 
-  -- ---- a list of commands
+  pub record Kept (start end : World) (commands : List Command) (replies : List Reply) : Type 0 where
+    pub policies : Edited (EditsPolicies by) start.policies commands replies end.policies
+    pub entities : Edited (EditsEntities by) start.entities commands replies end.entities
+    pub links : LinksAreWhole start.policies → LinksAreWhole end.policies
+    pub no_cycle : (IsCyclic start.entities → ⊥) → IsCyclic end.entities → ⊥
 
-  policies_after : {start end : World} {commands : List Command} {replies : List Reply} → Answers by start commands replies end → Edited (EditsPolicies by) start.policies commands replies end.policies
-  policies_after no_command = refl
-  policies_after (a_command {old = old} {mid = mid} {verb = verb} {text = text} {reply = reply} step more) = (mid.policies, edits_policies old mid verb text reply step, policies_after more)
+  pub none_kept : (world : World) → Kept world world [] []
+  none_kept world = record { policies = refl; entities = refl; links = λ whole. whole; no_cycle = λ none. none }
 
-  entities_after : {start end : World} {commands : List Command} {replies : List Reply} → Answers by start commands replies end → Edited (EditsEntities by) start.entities commands replies end.entities
-  entities_after no_command = refl
-  entities_after (a_command {old = old} {mid = mid} {verb = verb} {text = text} {reply = reply} step more) = (mid.entities, edits_entities old mid verb text reply step, entities_after more)
+  pub one_kept : (old mid end : World) (verb : Verb) (text : Text) (reply : Reply) (commands : List Command) (replies : List Reply)
+      → Keeps old mid verb text reply → Kept mid end commands replies → Kept old end ((verb, text) ∷ commands) (reply ∷ replies)
+  one_kept old mid end verb text reply commands replies first more = record {
+    policies = (mid.policies, first.policies, more.policies);
+    entities = (mid.entities, first.entities, more.entities);
+    links = λ whole. more.links (first.links whole);
+    no_cycle = λ none. more.no_cycle (first.no_cycle none);
+  }
 
-  links_after : {start end : World} {commands : List Command} {replies : List Reply} → Answers by start commands replies end → LinksAreWhole start.policies → LinksAreWhole end.policies
-  links_after no_command whole = whole
-  links_after (a_command {old = old} {mid = mid} {verb = verb} {text = text} {reply = reply} step more) whole = links_after more (links_stay_whole by old mid verb text reply step whole)
-
-  no_cycle_after : {start end : World} {commands : List Command} {replies : List Reply} → Answers by start commands replies end → (IsCyclic start.entities → ⊥) → IsCyclic end.entities → ⊥
-  no_cycle_after no_command none = none
-  no_cycle_after (a_command {old = old} {mid = mid} {verb = verb} {text = text} {reply = reply} step more) none = no_cycle_after more (cycles_stay_out by old mid verb text reply step none)
-
-  -- ---- from the beginning
+  kept : {start end : World} {commands : List Command} {replies : List Reply} → Answers by start commands replies end → Kept start end commands replies
+  kept no_command = none_kept _
+  kept (a_command {old = old} {mid = mid} {verb = verb} {text = text} {reply = reply} step more) = one_kept old mid _ verb text reply _ _ (stepped old mid verb text reply step) (kept more)
 
   reached : (commands : List Command) (replies : List Reply) (world : World) → Answers by new_world commands replies world → IsReached by commands replies world
-  reached commands replies world answers = record {
-    policies = policies_after answers;
-    entities = entities_after answers;
-    links = links_after answers no_link;
-    no_cycle = no_cycle_after answers nothing_cyclic;
-  }
+  reached commands replies world answers =
+      let all = kept answers in
+      record { policies = all.policies; entities = all.entities; links = all.links no_link; no_cycle = all.no_cycle nothing_cyclic }
 
   -- ---- a list in two parts
 

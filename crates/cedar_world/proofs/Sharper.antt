@@ -10,7 +10,7 @@ use Rattle.cedar_language.specs.Order.{same_text}
 use Rattle.cedar_language.specs.Facts.{Facts}
 use Rattle.cedar_language.specs.Operators.{found, applied}
 use Rattle.cedar_partial_evaluation.specs.MadeAgain.{tree_of, trees_of}
-use Rattle.cedar_partial_evaluation.specs.Partial.{Answer, Evaluated, ResidualTree, Failed, Answers, AllEvaluated, SomeResiduals, SomeFailed, answer_of, last_answer, and_answer, or_answer, if_answer, and_next, is_projectable, are_projectable, LeafAnswers, built_answer, projected_in, all_projected_in, found_tree, entry_answer, attribute_answer, has_entry_answer, has_answer, is_answer, stated_type, types_differ, equal_answer, residual_answer, apply_answer, partial_in, all_partial_in}
+use Rattle.cedar_partial_evaluation.specs.Partial.{Answer, Evaluated, ResidualTree, Failed, Answers, AllEvaluated, SomeResiduals, SomeFailed, answer_of, last_answer, and_answer, or_answer, if_answer, and_next, is_projectable, are_projectable, LeafAnswers, built_answer, projected_in, all_projected_in, found_tree, entry_answer, has_entry_answer, stated_type, types_differ, equal_answer, residual_answer, apply_answer, partial_in, all_partial_in}
 
 -- ---- trees that state more types
 
@@ -28,14 +28,8 @@ abbrev mutual
 mutual
   typed_itself : (t : Tree) → IsTyped t t
   typed_itself (Unknown n None) = (None, refl)
-  typed_itself (Unknown n (Some ty)) = refl
   typed_itself (Apply op ts) = (ts, refl, all_typed ts)
-  typed_itself (Lit l) = refl
-  typed_itself (Var v) = refl
-  typed_itself (Slot s) = refl
-  typed_itself (If t y n) = refl
-  typed_itself (And l r) = refl
-  typed_itself (Or l r) = refl
+  typed_itself _ = refl
 
   all_typed : (ts : Trees) → AreTyped ts ts
   all_typed no_trees = refl
@@ -65,18 +59,16 @@ neither false x o h = (refl, h)
 
 module _ (facts : Facts) (a : Text) where
   no_value : (ks : List Text) (vs : Values) → found_tree ks (trees_of facts vs) a ≡ None → found ks vs a ≡ None
-  no_value [] vs h = refl
-  no_value (k ∷ ks) no_values h = refl
   no_value (k ∷ ks) (a_value v vs) h =
       let (e, n) = neither (same_text k a) (tree_of facts v) (found_tree ks (trees_of facts vs) a) h in
       rw e (no_value ks vs n)
+  no_value _ _ h = refl
 
   no_tree : (ks : List Text) (vs : Values) → found ks vs a ≡ None → found_tree ks (trees_of facts vs) a ≡ None
-  no_tree [] vs h = refl
-  no_tree (k ∷ ks) no_values h = refl
   no_tree (k ∷ ks) (a_value v vs) h =
       let (e, n) = neither (same_text k a) v (found ks vs a) h in
       rw e (no_tree ks vs n)
+  no_tree _ _ h = refl
 
   -- a record of these operands lacks the key
   abbrev Lacks : List Text → Answers → Type 0
@@ -85,18 +77,15 @@ module _ (facts : Facts) (a : Text) where
   Lacks ks (SomeFailed k) = Unit {0}
 
   none_lacks : (ps : Answers) → Lacks [] ps
-  none_lacks (AllEvaluated vs) = refl
-  none_lacks (SomeResiduals rs) = refl
   none_lacks (SomeFailed k) = tt
+  none_lacks _ = refl
 
   next_lacks : (k : Text) (ks : List Text) (p : Answer) (ps : Answers) → same_text k a ≡ false → Lacks ks ps → Lacks (k ∷ ks) (and_next facts p ps)
-  next_lacks k ks (Failed e) ps n h = tt
   next_lacks k ks (Evaluated v) (AllEvaluated vs) n h = rw n h
   next_lacks k ks (Evaluated v) (SomeResiduals rs) n h = rw n h
-  next_lacks k ks (Evaluated v) (SomeFailed e) n h = tt
   next_lacks k ks (ResidualTree r) (AllEvaluated vs) n h = rw n (no_tree ks vs h)
   next_lacks k ks (ResidualTree r) (SomeResiduals rs) n h = rw n h
-  next_lacks k ks (ResidualTree r) (SomeFailed e) n h = tt
+  next_lacks k ks _ _ n h = tt
 
 -- an entry of a record that states more types
 typed_by : (b : Bool) (r s t : Tree) (o p : Option Tree) → IsTyped r s → (o ≡ Some t → (x : Tree) × (p ≡ Some x) × IsTyped t x) → cond b (Some r) o ≡ Some t
@@ -105,20 +94,18 @@ typed_by true r s t o p h f e = let same : r ≡ t = cc in (s, refl, subst (λ x
 typed_by false r s t o p h f e = f e
 
 typed_entry : (ks : List Text) (ts us : Trees) (a : Text) (t : Tree) → AreTyped ts us → found_tree ks ts a ≡ Some t → (s : Tree) × (found_tree ks us a ≡ Some s) × IsTyped t s
-typed_entry [] ts us a t h e = cc
-typed_entry (k ∷ ks) no_trees us a t h e = cc
 typed_entry (k ∷ ks) (a_tree r ts) us a t (s, ss, is, h, hs) e = rw is (typed_by (same_text k a) r s t (found_tree ks ts a) (found_tree ks ss a) h (typed_entry ks ts ss a t hs) e)
+typed_entry _ _ us a t h e = cc
 
 entry_by : (b : Bool) (r t : Tree) (o : Option Tree) → is_projectable r ≡ true → (o ≡ Some t → is_projectable t ≡ true) → cond b (Some r) o ≡ Some t → is_projectable t ≡ true
 entry_by true r t o h f e = let same : r ≡ t = cc in subst (λ x. is_projectable x ≡ true) same h
 entry_by false r t o h f e = f e
 
 entry_data : (ks : List Text) (ts : Trees) (a : Text) (t : Tree) → are_projectable ts ≡ true → found_tree ks ts a ≡ Some t → is_projectable t ≡ true
-entry_data [] ts a t h e = cc
-entry_data (k ∷ ks) no_trees a t h e = cc
 entry_data (k ∷ ks) (a_tree r ts) a t h e =
     let (hr, hts) = and_parts (is_projectable r) (are_projectable ts) h in
     entry_by (same_text k a) r t (found_tree ks ts a) hr (entry_data ks ts a t hts) e
+entry_data _ _ a t h e = cc
 
 no_typed_entry : (ks : List Text) (ts us : Trees) (a : Text) → AreTyped ts us → found_tree ks ts a ≡ None → found_tree ks us a ≡ None
 no_typed_entry [] ts us a h e = refl
@@ -207,9 +194,8 @@ module _ (facts : Facts) (now : LeafAnswers) where
   -- ---- operands
 
   failed_next : (y : Answer) (l : Kind) → (m : Kind) × (and_next facts y (SomeFailed l) ≡ SomeFailed m)
-  failed_next (Evaluated v) l = (l, refl)
-  failed_next (ResidualTree r) l = (l, refl)
   failed_next (Failed k) l = (k, refl)
+  failed_next _ l = (l, refl)
 
   -- the keys that are lacking behind a first operand
   lack_next : (r : Tree) (rs : Trees) (y : Answer) (ys : Answers) → ((ks : List Text) (a : Text) → found_tree ks rs a ≡ None → Lacks facts a ks ys)
@@ -286,13 +272,11 @@ module _ (facts : Facts) (now : LeafAnswers) where
 
   made_as : (ps : Answers) → apply_answer facts now MakeSet ps ≡ built_answer facts MakeSet ps
   made_as (AllEvaluated vs) = refl
-  made_as (SomeResiduals rs) = refl
-  made_as (SomeFailed k) = refl
+  made_as _ = refl
 
   recorded_as : (ks : List Text) (ps : Answers) → apply_answer facts now (MakeRecord ks) ps ≡ built_answer facts (MakeRecord ks) ps
   recorded_as ks (AllEvaluated vs) = refl
-  recorded_as ks (SomeResiduals rs) = refl
-  recorded_as ks (SomeFailed k) = refl
+  recorded_as ks _ = refl
 
   -- a record of data that is left
   record IsLeftRecord (ks : List Text) (rs : Trees) (p : Answer) : Type 0 where
@@ -318,14 +302,6 @@ module _ (facts : Facts) (now : LeafAnswers) where
       rw (left.is) (rw (left.data_alone, no_typed_entry ks rs left.entries a left.typed f) refl)
   has_by a ks rs p false o h e f = record { stays = λ e. cc; lacks = tt }
 
-  has_sharper : (a : Text) (r : Tree) (p : Answer) → IsNoLess r p → IsSharper (has_answer a r) (apply_answer facts now (HasAttr a) (and_next facts p (AllEvaluated no_values)))
-  has_sharper a (Apply (MakeRecord ks) rs) p h = has_by a ks rs p (are_projectable rs) (found_tree ks rs a) h refl refl
-  has_sharper a _ p h = record { stays = λ e. cc; lacks = tt }
-
-  is_sharper : (ty : Name) (r : Tree) (p : Answer) → IsNoLess r p → IsSharper (is_answer ty r) (apply_answer facts now (tree.Is ty) (and_next facts p (AllEvaluated no_values)))
-  is_sharper ty (Unknown n (Some (EntityType u))) p h = let (s, is, same) = h.stays refl in rw (is, same) refl
-  is_sharper ty _ p h = record { stays = λ e. cc; lacks = tt }
-
   -- an operand whose type is stated stays as it is
   stated_stays : (r s : Tree) (u : Name) → stated_type r ≡ Some u → IsTyped r s → s ≡ r
   stated_stays (Lit l) s u e h = h
@@ -347,8 +323,7 @@ module _ (facts : Facts) (now : LeafAnswers) where
   differ_by r s ps (Some u) (Some w) h e f d =
       let (us, is, typed) = h.stay (and_from (is_projectable r) (is_projectable s && true) (stated_data r u e) (and_from (is_projectable s) true (stated_data s w f) refl)) in
       is ∙ ap (λ ts. SomeResiduals ts) (stated_stay r s u w us e f typed)
-  differ_by r s ps (Some u) None h e f d = cc
-  differ_by r s ps None q h e f d = cc
+  differ_by r s ps _ _ h e f d = cc
 
   equal_sharper : (r s : Tree) (ps : Answers) (b : Bool) → AreNoLess (a_tree r (a_tree s no_trees)) ps → types_differ (stated_type r) (stated_type s) ≡ b
       → IsSharper (equal_answer b r s) (apply_answer facts now Equal ps)
@@ -386,14 +361,18 @@ module _ (facts : Facts) (now : LeafAnswers) where
         rw (left.is) (rw (left.data_alone, found) (projected_sharper t s (entry_data ks rs a t e f) same))
     attribute_by a ks rs p false (Some t) h e f = record { stays = λ e. cc; lacks = tt }
 
-    attribute_sharper : (a : Text) (r : Tree) (p : Answer) → IsNoLess r p → IsSharper (attribute_answer facts before a r) (apply_answer facts now (GetAttr a) (and_next facts p (AllEvaluated no_values)))
-    attribute_sharper a (Apply (MakeRecord ks) rs) p h = attribute_by a ks rs p (are_projectable rs) (found_tree ks rs a) h refl refl
-    attribute_sharper a _ p h = record { stays = λ e. cc; lacks = tt }
-
     left_sharper : (op : Operator) (rs : Trees) (ps : Answers) → AreNoLess rs ps → IsSharper (residual_answer facts before op rs) (apply_answer facts now op ps)
-    left_sharper (GetAttr a) (a_tree r no_trees) ps h = let (p, is, k) = h.one r refl in rw is (attribute_sharper a r p k)
-    left_sharper (HasAttr a) (a_tree r no_trees) ps h = let (p, is, k) = h.one r refl in rw is (has_sharper a r p k)
-    left_sharper (tree.Is ty) (a_tree r no_trees) ps h = let (p, is, k) = h.one r refl in rw is (is_sharper ty r p k)
+    left_sharper (GetAttr a) (a_tree (Apply (MakeRecord ks) rs) no_trees) ps h =
+        let (p, is, k) = h.one (Apply (MakeRecord ks) rs) refl in rw is (attribute_by a ks rs p (are_projectable rs) (found_tree ks rs a) k refl refl)
+    left_sharper (GetAttr a) (a_tree r no_trees) ps h = record { stays = λ e. cc; lacks = tt }
+    left_sharper (HasAttr a) (a_tree (Apply (MakeRecord ks) rs) no_trees) ps h =
+        let (p, is, k) = h.one (Apply (MakeRecord ks) rs) refl in rw is (has_by a ks rs p (are_projectable rs) (found_tree ks rs a) k refl refl)
+    left_sharper (HasAttr a) (a_tree r no_trees) ps h = record { stays = λ e. cc; lacks = tt }
+    left_sharper (tree.Is ty) (a_tree (Unknown n (Some (EntityType u))) no_trees) ps h =
+        let (p, is, k) = h.one (Unknown n (Some (EntityType u))) refl in
+        let (s, e, same) = k.stays refl in
+        rw is (rw (e, same) refl)
+    left_sharper (tree.Is ty) (a_tree r no_trees) ps h = record { stays = λ e. cc; lacks = tt }
     left_sharper Equal (a_tree r (a_tree s no_trees)) ps h = equal_sharper r s ps (types_differ (stated_type r) (stated_type s)) h refl
     left_sharper MakeSet rs ps h = rw (made_as ps) (set_sharper (SomeResiduals rs) ps h)
     left_sharper (MakeRecord ks) rs ps h = rw (recorded_as ks ps) (record_sharper ks (SomeResiduals rs) ps h)

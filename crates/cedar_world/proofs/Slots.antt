@@ -11,9 +11,8 @@ use Rattle.cedar_world.specs.LinkLaws.{LinksAreStatic}
 
 none_still : (o : Option Uid) (h : Bool) → same_flag (is_some o) h ≡ true → (h && not (is_some o)) ≡ false
 none_still None true e = absurd (true≢false (sym e))
-none_still None false e = refl
 none_still (Some u) true e = refl
-none_still (Some u) false e = refl
+none_still _ _ e = refl
 
 pub static : LinksAreStatic
 static b s h =

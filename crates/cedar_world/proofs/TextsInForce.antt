@@ -1,10 +1,8 @@
 -- What holds of each policy of a text, and of links to those of which it holds, holds of each that is in force after any list of commands.
-use Rattle.std.proofs.Common.{◌≡◌, inl, inr, Bool, true, false, cond, Option, Some, None, option_map, List, [], ◌∷◌, refl, sym, ◌∙◌, subst}
+use Rattle.std.proofs.Common.{◌≡◌, inl, inr, Bool, true, false, cond, Option, Some, None, option_map, List, [], ◌∷◌, refl, sym, ◌∙◌, ap, subst}
 use Rattle.std.specs.FinMap as map
-use Rattle.std.specs.Ordering.{eq_by_cmp}
 use Rattle.cedar_language.specs.Uid.{Text}
 use Rattle.cedar_language.specs.Order.{text_cmp}
-use Rattle.cedar_language.specs.OrderLaws.{text_cmp_total}
 use Rattle.cedar_world.specs.Commands.{Verb, Load, Link, Unlink, RemoveStatic, RemoveTemplate, Reply, Done, Named}
 use Rattle.cedar_world.specs.LinkLaws.{LinksAreStatic, LinksAreWhole}
 use Rattle.cedar_world.specs.PolicyEdits.{joined}
@@ -14,6 +12,8 @@ use Rattle.cedar_grammar.specs.Bindings.{Bindings, linked}
 use Rattle.cedar_grammar.specs.Syntax.{PolicySyntax, is_template}
 use Rattle.cedar_world.specs.World as world
 use Rattle.cedar_world.specs.World.{Bound, Policies, in_force_at}
+use Rattle.cedar_world.proofs.Parts.{same_some, not_none}
+use Rattle.cedar_world.proofs.Maps.{same_or_not, put_there, put_elsewhere, gone_there, gone_elsewhere}
 use Rattle.cedar_world.proofs.Lists.{IsAmong}
 
 module _ (by : Setting) (Holds : PolicySyntax → Type 0) (texts : (text : Text) (ss : List PolicySyntax) → ArePolicies by text ss → (s : PolicySyntax) → IsAmong s ss → Holds s) where
@@ -23,41 +23,31 @@ module _ (by : Setting) (Holds : PolicySyntax → Type 0) (texts : (text : Text)
 
   -- ---- what one command edits
 
-  chosen : (b : Bool) (s t : PolicySyntax) (o : Option Bound) → cond b (Some (world.Policy s)) o ≡ Some (world.Policy t) → Holds s → (o ≡ Some (world.Policy t) → Holds t) → Holds t
-  chosen true s t o e h k = let same : s ≡ t = cc in subst Holds same h
-  chosen false s t o e h k = k e
+  put_holds : (policies : Policies) (id : Text) (x : Bound) → AllHold policies → ((s : PolicySyntax) → x ≡ world.Policy s → Holds s) → AllHold (map.insert policies id x)
+  put_holds policies id x all h q t e = elim (same_or_not q id) [
+    | inl at ↦ h t (same_some x (world.Policy t) (sym (put_there policies id x) ∙ sym (ap (map.get (map.insert policies id x)) at) ∙ e))
+    | inr other ↦ all q t (sym (put_elsewhere policies id x q other) ∙ e)
+  ]
 
-  linked_chosen : (b : Bool) (template : Text) (bindings : Bindings) (t : PolicySyntax) (o : Option Bound) → cond b (Some (world.Link template bindings)) o ≡ Some (world.Policy t) → (o ≡ Some (world.Policy t) → Holds t) → Holds t
-  linked_chosen true template bindings t o e k = cc
-  linked_chosen false template bindings t o e k = k e
-
-  left_chosen : (b : Bool) (t : PolicySyntax) (o : Option Bound) → cond b None o ≡ Some (world.Policy t) → (o ≡ Some (world.Policy t) → Holds t) → Holds t
-  left_chosen true t o e k = cc
-  left_chosen false t o e k = k e
-
-  put_holds : (policies : Policies) (id : Text) (s : PolicySyntax) → AllHold policies → Holds s → AllHold (map.insert policies id (world.Policy s))
-  put_holds policies id s all h q t e =
-      chosen (eq_by_cmp text_cmp q id) s t (map.get policies q) (sym (map.get-insert text_cmp_total policies id (world.Policy s) q) ∙ e) h (all q t)
-
-  link_holds : (policies : Policies) (id template : Text) (bindings : Bindings) → AllHold policies → AllHold (map.insert policies id (world.Link template bindings))
-  link_holds policies id template bindings all q t e =
-      linked_chosen (eq_by_cmp text_cmp q id) template bindings t (map.get policies q) (sym (map.get-insert text_cmp_total policies id (world.Link template bindings) q) ∙ e) (all q t)
+  policy_holds : (s : PolicySyntax) → Holds s → (t : PolicySyntax) → world.Policy s ≡ world.Policy t → Holds t
+  policy_holds s h t e = let same : s ≡ t = cc in subst Holds same h
 
   rest_holds : (policies : Policies) (id : Text) → AllHold policies → AllHold (map.remove policies id)
-  rest_holds policies id all q t e =
-      left_chosen (eq_by_cmp text_cmp q id) t (map.get policies q) (sym (map.get-remove text_cmp_total policies id q) ∙ e) (all q t)
+  rest_holds policies id all q t e = elim (same_or_not q id) [
+    | inl at ↦ absurd (not_none (world.Policy t) (sym (gone_there policies id) ∙ sym (ap (map.get (map.remove policies id)) at) ∙ e))
+    | inr other ↦ all q t (sym (gone_elsewhere policies id q other) ∙ e)
+  ]
 
   joined_hold : (policies : Policies) (ss : List PolicySyntax) (ids : List Text) → AllHold policies → ((s : PolicySyntax) → IsAmong s ss → Holds s) → AllHold (joined policies ss ids)
-  joined_hold policies [] ids all h = all
-  joined_hold policies (s ∷ ss) [] all h = all
-  joined_hold policies (s ∷ ss) (id ∷ ids) all h = joined_hold (map.insert policies id (world.Policy s)) ss ids (put_holds policies id s all (h s (inl refl))) (λ t among. h t (inr among))
+  joined_hold policies (s ∷ ss) (id ∷ ids) all h = joined_hold (map.insert policies id (world.Policy s)) ss ids (put_holds policies id (world.Policy s) all (policy_holds s (h s (inl refl)))) (λ t among. h t (inr among))
+  joined_hold policies _ _ all h = all
 
   as_before : (old new : Policies) → new ≡ old → AllHold old → AllHold new
   as_before old new e all = subst AllHold (sym e) all
 
   edit_holds : (old new : Policies) (verb : Verb) (text : Text) (reply : Reply) → EditsPolicies by old verb text reply new → AllHold old → AllHold new
   edit_holds old new Load text (Named ids) (ss, are, loads) all = subst AllHold (sym loads.policies) (joined_hold old ss ids all (texts text ss are))
-  edit_holds old new Link text Done (b, says, is) all = subst AllHold (sym is) (link_holds old b.id b.template b.bindings all)
+  edit_holds old new Link text Done (b, says, is) all = subst AllHold (sym is) (put_holds old b.id (world.Link b.template b.bindings) all (λ t e. cc))
   edit_holds old new Unlink text Done (id, says, is) all = subst AllHold (sym is) (rest_holds old id all)
   edit_holds old new RemoveStatic text Done (id, says, is) all = subst AllHold (sym is) (rest_holds old id all)
   edit_holds old new RemoveTemplate text Done (id, says, is) all = subst AllHold (sym is) (rest_holds old id all)
@@ -89,9 +79,8 @@ module _ (by : Setting) (Holds : PolicySyntax → Type 0) (texts : (text : Text)
     template_holds false id t s at e = cc
 
     found_template : (id : Text) (o : Option Bound) (s : PolicySyntax) → map.get policies id ≡ o → world.template_of o ≡ Some s → Holds s
-    found_template id None s at e = cc
     found_template id (Some (world.Policy t)) s at e = template_holds (is_template t) id t s at e
-    found_template id (Some (world.Link template bindings)) s at e = cc
+    found_template id _ s at e = cc
 
     linked_holds : (bindings : Bindings) (o : Option PolicySyntax) (s : PolicySyntax) → option_map (linked bindings) o ≡ Some s → ((t : PolicySyntax) → o ≡ Some t → Holds t) → Holds s
     linked_holds bindings None s e h = cc

@@ -1,16 +1,16 @@
 -- What accepted commands told of a question is a filling, once all is told.
-use Rattle.std.proofs.Common.{◌≡◌, inl, inr, Bool, true, false, cond, not, ◌&&◌, ◌||◌, Option, Some, None, is_some, IsSome, List, [], ◌∷◌, codes, refl, sym, ◌∙◌, ap, subst, true≢false}
-use Rattle.std.proofs.lemmas.Bool.{and_parts, or_cases, or_left, or_right, or_parts, or_from, false_from_ne_true, not-true, not-false, cases_Bool}
+use Rattle.std.proofs.Common.{◌≡◌, inl, inr, Bool, true, false, cond, not, ◌&&◌, Option, Some, None, is_some, IsSome, List, [], ◌∷◌, codes, refl, sym, ◌∙◌, ap, subst, true≢false}
+use Rattle.std.proofs.lemmas.Bool.{and_parts, or_left, or_right, or_parts, or_from, false_from_ne_true, not-false, cases_Bool}
 use Rattle.std.specs.FinMap as map
 use Rattle.cedar_language.specs.Uid.{Text, Name, Uid}
-use Rattle.cedar_language.specs.Tree.{String, Entity, RecordType, ValueType, MakeSet, MakeRecord, Call, Tree, Lit, Var, Slot, Unknown, If, And, Or, Apply, Trees, no_trees, a_tree}
-use Rattle.cedar_language.specs.Value.{Value, Plain, SetOf, RecordOf, ExtensionOf, TypeError, Outcome, Gives, Fails}
+use Rattle.cedar_language.specs.Tree.{String, Entity, RecordType, ValueType, MakeSet, MakeRecord, Call, Tree, Lit, Unknown, Apply, Trees, no_trees, a_tree}
+use Rattle.cedar_language.specs.Value.{Value, Plain, TypeError, Outcome, Gives, Fails}
 use Rattle.cedar_language.specs.Authorization.{Known}
 use Rattle.cedar_grammar.specs.Functions.{is_the_unknown}
 use Rattle.cedar_grammar.specs.UnknownCalls.{unknown_or, named_call, named, all_named, hold_call}
 use Rattle.cedar_partial_evaluation.specs.Filling.{GivesEach, GivesEachOf, FillsPart, FillsContext, name_outcome}
 use Rattle.cedar_partial_evaluation.specs.Unknowns.{fits as fits_type}
-use Rattle.cedar_world.specs.Orders.{text_cmp, text_eq}
+use Rattle.cedar_world.specs.Orders.{text_eq}
 use Rattle.cedar_world.specs.Answer.{Answer}
 use Rattle.cedar_world.specs.World.{World, Asked}
 use Rattle.cedar_world.specs.Asking.{Part, Given, Missing, Entries, NoContext, WithEntries, Question, Told}
@@ -26,8 +26,12 @@ use Rattle.cedar_world.specs.Session.{Command, Answers, no_command, a_command}
 use Rattle.cedar_world.specs.RunText.{FrameStep}
 use Rattle.cedar_world.specs.RunLaws.{AnswersFrames, no_frame, a_frame}
 use Rattle.cedar_world.specs.ToldAll.{IsToldByCommands, asks, tells, OpensByCommands, TellsAll, ToldAllIsAFilling}
+use Rattle.cedar_partial_evaluation.proofs.Passing.{data_in}
 use Rattle.cedar_world.proofs.Parts.{same_some, not_none}
-use Rattle.cedar_world.proofs.Maps.{put_there, put_elsewhere, same_or_not, itself}
+use Rattle.cedar_world.proofs.Ids.{the_value}
+use Rattle.cedar_world.proofs.Fillings.{nothing_told}
+use Rattle.cedar_world.proofs.Names.{FailsTest, none_pass, all_named as each_of}
+use Rattle.cedar_world.proofs.Maps.{put_there, put_elsewhere, same_or_not}
 use Rattle.cedar_world.proofs.Portions.{read_cons}
 use Rattle.cedar_world.proofs.QuestionParts.{ContextPasses, question_passes}
 use Rattle.cedar_world.proofs.Standing.{none_stands}
@@ -64,39 +68,6 @@ stated =
     question_passes (λ t. is_restricted t ≡ true) (λ ts. are_restricted ts ≡ true) (λ t ts h. and_parts (is_restricted t) (are_restricted ts) h) (λ ks ts h. h)
     all_named_restricted
 
--- ---- names that occur
-
-abbrev Occurs : (Text → Bool) → ((Text → Bool) → Bool) → Type 0
-Occurs test some = (n : Text) × (test n ≡ true) × (some (text_eq n) ≡ true)
-
-occurs_left : (test : Text → Bool) (f g : (Text → Bool) → Bool) → Occurs test f → Occurs test (λ p. f p || g p)
-occurs_left test f g (n, h, e) = (n, h, or_left (f (text_eq n)) (g (text_eq n)) e)
-
-occurs_right : (test : Text → Bool) (f g : (Text → Bool) → Bool) → Occurs test g → Occurs test (λ p. f p || g p)
-occurs_right test f g (n, h, e) = (n, h, or_right (f (text_eq n)) (g (text_eq n)) e)
-
-occurs_in : (test : Text → Bool) (f g : (Text → Bool) → Bool) → ((f test ≡ true) → Occurs test f) → ((g test ≡ true) → Occurs test g)
-    → (f test || g test) ≡ true → Occurs test (λ p. f p || g p)
-occurs_in test f g of_f of_g h = elim (or_cases (f test) (g test) h) [ inl e ↦ occurs_left test f g (of_f e) | inr e ↦ occurs_right test f g (of_g e) ]
-
-module _ (test : Text → Bool) where
-  mutual
-    occurs : (t : Tree) → some_name test t ≡ true → Occurs test (λ p. some_name p t)
-    occurs (Lit l) h = cc
-    occurs (Var v) h = cc
-    occurs (Slot s) h = cc
-    occurs (Unknown n ty) h = (n, h, itself n)
-    occurs (If t y n) h =
-        occurs_in test (λ p. some_name p t) (λ p. some_name p y || some_name p n) (occurs t)
-        (occurs_in test (λ p. some_name p y) (λ p. some_name p n) (occurs y) (occurs n)) h
-    occurs (And l r) h = occurs_in test (λ p. some_name p l) (λ p. some_name p r) (occurs l) (occurs r) h
-    occurs (Or l r) h = occurs_in test (λ p. some_name p l) (λ p. some_name p r) (occurs l) (occurs r) h
-    occurs (Apply op ts) h = occurs_of ts h
-
-    occurs_of : (ts : Trees) → some_name_of test ts ≡ true → Occurs test (λ p. some_name_of p ts)
-    occurs_of no_trees h = cc
-    occurs_of (a_tree t ts) h = occurs_in test (λ p. some_name p t) (λ p. some_name_of p ts) (occurs t) (occurs_of ts) h
-
 -- ---- what is told of a question
 
 module _ (by : Setting) where
@@ -122,19 +93,12 @@ module _ (by : Setting) where
 
   missing_filled : (ty : Option Name) (o : Option Value) → IsSome o → ((v : Value) → o ≡ Some v → fits_part (Missing ty) v ≡ true) → (u : Uid) × FillsPart (Missing ty) o u
   missing_filled ty (Some (Plain (Entity u))) some fit = (u, (refl, fit (Plain (Entity u)) refl))
-  missing_filled ty (Some (Plain l)) some fit = absurd (let e = fit (Plain l) refl in cc)
-  missing_filled ty (Some (SetOf vs)) some fit = absurd (let e = fit (SetOf vs) refl in cc)
-  missing_filled ty (Some (RecordOf ks vs)) some fit = absurd (let e = fit (RecordOf ks vs) refl in cc)
-  missing_filled ty (Some (ExtensionOf x)) some fit = absurd (let e = fit (ExtensionOf x) refl in cc)
+  missing_filled ty (Some v) some fit = absurd (let e = fit v refl in cc)
   missing_filled ty None some fit = absurd (true≢false (sym some))
 
   part_filled : (p : Part) (o : Option Value) → (is_missing p ≡ true → IsSome o) → ((v : Value) → o ≡ Some v → fits_part p v ≡ true) → (u : Uid) × FillsPart p o u
   part_filled (Given u) o some fit = (u, refl)
   part_filled (Missing ty) o some fit = missing_filled ty o (some refl) fit
-
-  some_value : (o : Option Value) → IsSome o → (v : Value) × (o ≡ Some v)
-  some_value (Some v) h = (v, refl)
-  some_value None h = absurd (true≢false (sym h))
 
   gives : (o : Outcome) → fails o ≡ false → (v : Value) × (o ≡ Gives v)
   gives (Gives v) h = (v, refl)
@@ -154,9 +118,7 @@ module _ (by : Setting) where
       each_given : (t : Tree) → is_restricted t ≡ true → some_name (untold told) t ≡ false → some_part (errs_told told) t ≡ false → GivesEach told t
       each_given (Lit l) r u h = tt
       each_given (Unknown n ty) r u h = name_given n ty (map.get told n) refl u h
-      each_given (Apply MakeSet ts) r u h = each_of_given ts r u (or_parts (errs_told told (Apply MakeSet ts)) (some_part_of (errs_told told) ts) h).1
-      each_given (Apply (MakeRecord ks) ts) r u h = each_of_given ts r u (or_parts (errs_told told (Apply (MakeRecord ks) ts)) (some_part_of (errs_told told) ts) h).1
-      each_given (Apply (Call f) ts) r u h = each_of_given ts r u (or_parts (errs_told told (Apply (Call f) ts)) (some_part_of (errs_told told) ts) h).1
+      each_given (Apply op ts) r u h = each_of_given ts (data_in op ts r).0 u (or_parts (errs_told told (Apply op ts)) (some_part_of (errs_told told) ts) h).1
       each_given _ r u h = cc
 
       each_of_given : (ts : Trees) → are_restricted ts ≡ true → some_name_of (untold told) ts ≡ false → some_part_of (errs_told told) ts ≡ false → GivesEachOf told ts
@@ -168,14 +130,12 @@ module _ (by : Setting) where
           (each_given t rt ut ht, each_of_given ts rts uts hts)
 
     none_untold : (ts : Trees) → ((n : Text) → some_name_of (text_eq n) ts ≡ true → IsSome (map.get told n)) → some_name_of (untold told) ts ≡ false
-    none_untold ts all =
-        false_from_ne_true (some_name_of (untold told) ts)
-        (λ e. let (n, not_there, here) = occurs_of (untold told) ts e in true≢false (sym (all n here) ∙ not-true (is_some (map.get told n)) not_there))
+    none_untold ts all = none_pass (untold told) ts (each_of (FailsTest (untold told)) ts (λ n ty h. ap not (all n h)))
 
     context_filled : (c : Entries) → IsStated c → context_errs by c told ≡ false → ((n : Text) → has_name c n ≡ true → IsSome (map.get told n))
         → ((v : Value) → map.get told (codes "context") ≡ Some v → c ≡ NoContext → fits_type (Some RecordType) v ≡ true)
         → (w : Value) × FillsContext (functions_alone by.functions) c told w
-    context_filled NoContext s e all fit = let (v, is) = some_value (map.get told (codes "context")) (all (codes "context") refl) in (v, (is, fit v is refl))
+    context_filled NoContext s e all fit = let (v, is) = the_value (map.get told (codes "context")) (all (codes "context") refl) in (v, (is, fit v is refl))
     context_filled (WithEntries ks ts) (restricted, uncalled) e all fit =
         let told_all = none_untold ts all in
         let (here, below) = or_parts (errs_told told (Apply (MakeRecord ks) ts)) (some_part_of (errs_told told) ts) e in
@@ -225,9 +185,6 @@ module _ (by : Setting) where
         names n = told_or_not n (map.get told n) refl (is_unknown q n) refl
 
   -- ---- asking
-
-  nothing_told : (n : Text) (v : Value) → map.get {X = Value} {R = text_cmp} map.empty n ≡ Some v → ⊥
-  nothing_told n v e = not_none v (sym (map.get-empty text_cmp n) ∙ e)
 
   stated_so : (c : Entries) → ContextPasses (λ ts. are_restricted ts ≡ true) c → holds_bad_unknown c ≡ false → IsStated c
   stated_so NoContext h e = tt

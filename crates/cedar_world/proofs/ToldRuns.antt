@@ -1,4 +1,4 @@
--- Frames that tell are tells.
+-- Commands that tell are tells, and so are frames.
 use Rattle.std.proofs.Common.{◌≡◌, inl, inr, ℕ, Some, List, [], ◌∷◌, ◌++◌, length, ap, subst}
 use Rattle.cedar_language.specs.Uid.{Text}
 use Rattle.cedar_world.specs.Answer.{Answer}
@@ -7,13 +7,29 @@ use Rattle.cedar_world.specs.Question.{Portion}
 use Rattle.cedar_world.specs.Setting.{Setting}
 use Rattle.cedar_world.specs.Commands.{Verb, Ask, Tell, Refusal, Reply, Answered, Refused}
 use Rattle.cedar_world.specs.Laws.{TellingAllIsKnowing}
-use Rattle.cedar_world.specs.Session.{Command}
+use Rattle.cedar_world.specs.Session.{Command, Answers, no_command, a_command}
 use Rattle.cedar_world.specs.Step.{Step}
 use Rattle.cedar_world.specs.RunText.{FrameStep, Ran}
 use Rattle.cedar_world.specs.RunLaws.{commands_of, replies_of, AnswersFrames, no_frame, a_frame, EndKnown, RunsEndKnown}
-use Rattle.cedar_world.specs.Telling.{Tells, all_told, one_told}
-use Rattle.cedar_world.specs.TellingLaws.{TellEach}
+use Rattle.cedar_world.specs.Telling.{Tells, all_told, one_refused, one_told}
+use Rattle.cedar_world.specs.TellingLaws.{TellEach, ToldCommandsEndKnown}
 use Rattle.cedar_world.proofs.RunSession.{in_turn, frame_among, parted}
+
+-- ---- commands
+
+module _ (by : Setting) where
+  command_tells : {start end : World} {commands : List Command} {replies : List Reply} → Answers by start commands replies end → (portions : List Portion) → TellEach by commands replies portions → Tells by start portions end
+  command_tells no_command [] h = all_told
+  command_tells no_command (p ∷ ps) h = absurd h
+  command_tells (a_command {verb = verb} {text = text} {reply = Refused r} step more) ps h = one_refused verb text r step (command_tells more ps h)
+  command_tells (a_command {verb = Tell} {text = text} {reply = Answered answer} step more) (p ∷ ps) h = one_told text answer h.0 step (command_tells more ps h.1)
+  command_tells (a_command {verb = verb} {text = text} {reply = reply} step more) ps h = absurd h
+
+pub told_commands : TellingAllIsKnowing → ToldCommandsEndKnown
+told_commands known by before start end text first asked commands replies portions filling request step now answers told fills parts =
+    known by before start end text first asked filling request portions step now fills parts (command_tells by answers portions told)
+
+-- ---- frames
 
 module _ (by : Setting) where
   -- a refused frame leaves the world, whatever refused it

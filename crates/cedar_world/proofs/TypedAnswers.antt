@@ -1,12 +1,12 @@
 -- A question that states types has sharper leaves, so its policies stand more sharply, and so does the answer.
-use Rattle.std.proofs.Common.{◌≡◌, true, false, Option, Some, None, is_some, List, [], ◌∷◌, map, inl, inr, refl, sym, ◌∙◌, ap, subst}
+use Rattle.std.proofs.Common.{◌≡◌, Option, None, is_some, List, [], ◌∷◌, map, inl, inr, refl, sym, ◌∙◌, ap, subst}
 use Rattle.std.specs.FinMap as finite
 use Rattle.std.specs.Prelude.{codes}
 use Rattle.cedar_language.specs.Uid.{Text}
-use Rattle.cedar_language.specs.Tree.{Boolean, ValueType, Variable, Principal, Action, Resource, Context, Unknown}
-use Rattle.cedar_language.specs.Value.{Value, Plain, Kind, TypeError}
+use Rattle.cedar_language.specs.Tree.{ValueType, Variable, Principal, Action, Resource, Context, Unknown}
+use Rattle.cedar_language.specs.Value.{Value, Kind, Gives}
 use Rattle.cedar_language.specs.Facts.{Facts}
-use Rattle.cedar_language.specs.Answering.{Standing, Satisfied, Unsatisfied, Erring, Residual, Judged, StillErrs, Come, none_come, one_comes, satisfied_forbid, residual_forbid, satisfied_permit, residual_permit, decision, in_must, in_may, IsAsSharp, RulesAreSharp}
+use Rattle.cedar_language.specs.Answering.{Standing, Erring, Judged, StillErrs, Come, none_come, one_comes, satisfied_forbid, residual_forbid, satisfied_permit, residual_permit, decision, in_must, in_may, IsAsSharp, RulesAreSharp}
 use Rattle.cedar_partial_evaluation.specs.Early.{standing_of_answer}
 use Rattle.cedar_partial_evaluation.specs.Linking.{no_slots}
 use Rattle.cedar_partial_evaluation.specs.Partial.{Answer, Evaluated, ResidualTree, Failed, LeafAnswers, partial_in}
@@ -14,33 +14,28 @@ use Rattle.cedar_partial_evaluation.specs.Question.{Part, Given, Missing, Questi
 use Rattle.cedar_world.specs.Answer.{Answer as Answered}
 use Rattle.cedar_world.specs.Answers.{HoldsOf}
 use Rattle.cedar_world.specs.Orders.{text_cmp}
-use Rattle.cedar_world.specs.Standing.{StandsEarly, IsJudged, Judges, Says}
+use Rattle.cedar_world.specs.Standing.{StandsEarly, Judges, Says}
 use Rattle.cedar_grammar.specs.Syntax.{PolicySyntax, condition}
 use Rattle.cedar_world.specs.World.{World, in_force_at}
 use Rattle.cedar_world.specs.Sound.{Becomes}
 use Rattle.cedar_world.specs.Typed.{untyped_part, untyped, TypedQuestionsAreSharper}
-use Rattle.cedar_world.proofs.Beside.{beside, same_syntax, judged, there}
+use Rattle.cedar_world.proofs.Standings.{comes_itself}
+use Rattle.cedar_world.proofs.LaterStandings.{value_standing}
+use Rattle.cedar_world.proofs.Beside.{beside, standing_at, stands_as, judged, there, alike_as}
 use Rattle.cedar_world.proofs.Lists.{IsAmong, mapped, unmapped, AreAlike, some_alike}
-use Rattle.cedar_world.proofs.Members.{the_value, HasPassed, passed, has_passed, HasFailed, failed, has_failed}
+use Rattle.cedar_world.proofs.Ids.{the_value, HasPassed, passed, has_passed, HasFailed, failed, has_failed}
 use Rattle.cedar_world.proofs.Sharper.{IsSharper, sharp_itself, sharper}
 
 -- ---- standings
 
-value_stands : (v : Value) → Becomes (standing_of_answer (Evaluated v)) (standing_of_answer (Evaluated v))
-value_stands (Plain (Boolean true)) = (refl, tt)
-value_stands (Plain (Boolean false)) = (tt, tt)
-value_stands _ = (tt, (TypeError, refl))
-
 becomes : (facts : Facts) (now : LeafAnswers) (x y : Answer) → IsSharper facts now x y → Becomes (standing_of_answer x) (standing_of_answer y)
-becomes facts now (Evaluated v) y h = rw h (value_stands v)
+becomes facts now (Evaluated v) y h = rw h (subst (λ s. Becomes s s) (value_standing v) (comes_itself (Gives v)))
 becomes facts now (ResidualTree r) y h = (tt, tt)
 becomes facts now (Failed k) y (l, e) = rw e (tt, (l, refl))
 
 of_standing : (x y : Standing) (k : Kind) → x ≡ Erring k → StillErrs x y → (l : Kind) × (y ≡ Erring l)
 of_standing (Erring j) y k e h = h
-of_standing Satisfied y k e h = cc
-of_standing Unsatisfied y k e h = cc
-of_standing Residual y k e h = cc
+of_standing _ y k e h = cc
 
 -- ---- leaves
 
@@ -89,27 +84,17 @@ module _ (sharp_rules : RulesAreSharp) (world : World) (facts : Facts) (q : Ques
   abbrev standing_now : PolicySyntax → Standing
   standing_now s = standing_of_answer (partial_in facts (held_of facts q no_slots finite.empty) (condition s))
 
-  abbrev standing_at : Option PolicySyntax → Standing
-  standing_at None = Unsatisfied
-  standing_at (Some s) = standing_now s
-
   -- how the policy stands to the question with types
   abbrev now_as : Judged → Judged
-  now_as j = record { id = j.id; effect = j.effect; standing = standing_at (in_force_at world.policies j.id) }
+  now_as = stands_as world standing_now
 
   abbrev all : List Judged
   all = map now_as js
 
-  first : (j : Judged) → IsAmong j js → IsJudged world Before j
-  first = judged world Before js judges
-
-  second : (k : Judged) → IsAmong k ks → IsJudged world Now k
-  second = judged world Now ks judges_now
-
-  stands_now : (j : Judged) → IsAmong j js → Becomes j.standing (standing_at (in_force_at world.policies j.id))
+  stands_now : (j : Judged) → IsAmong j js → Becomes j.standing (standing_at standing_now (in_force_at world.policies j.id))
   stands_now j a =
-      let h = first j a in
-      subst (λ o. Becomes j.standing (standing_at o)) (sym h.in_force) (policy_stands facts q h.syntax j.standing (standing_now h.syntax) h.standing refl)
+      let h = judged world Before js judges j a in
+      subst (λ o. Becomes j.standing (standing_at standing_now o)) (sym h.in_force) (policy_stands facts q h.syntax j.standing (standing_now h.syntax) h.standing refl)
 
   come : (is : List Judged) → ((j : Judged) → IsAmong j is → IsAmong j js) → Come is (map now_as is)
   come [] h = none_come
@@ -118,25 +103,8 @@ module _ (sharp_rules : RulesAreSharp) (world : World) (facts : Facts) (q : Ques
   sharp : IsAsSharp js all
   sharp = sharp_rules js all (come js (λ j a. a))
 
-  same : (j k : Judged) → IsJudged world Before j → IsJudged world Now k → k.id ≡ j.id → k ≡ now_as j
-  same j k h g e =
-      let syntax : g.syntax ≡ h.syntax = same_syntax world k.id j.id g.syntax h.syntax g.in_force e h.in_force in
-      let effect : k.effect ≡ j.effect = sym g.effect ∙ ap (λ (s : PolicySyntax). s.effect) syntax ∙ h.effect in
-      let standing : k.standing ≡ standing_at (in_force_at world.policies j.id) = g.standing ∙ ap standing_now syntax ∙ ap standing_at (sym h.in_force) in
-      λ i. record { id = e i; effect = effect i; standing = standing i }
-
   alike : AreAlike all ks
-  alike = record {
-    there = λ x a.
-        let (j, b, is) = unmapped now_as js x a in
-        let h = first j b in
-        let (k, c, e) = there world Now ks judges_now j.id h.syntax h.in_force in
-        subst (λ y. IsAmong y ks) (same j k h (second k c) e ∙ is) c;
-    back = λ k c.
-        let g = second k c in
-        let (j, b, e) = there world Before js judges k.id g.syntax g.in_force in
-        subst (λ y. IsAmong y all) (sym (same j k (first j b) g (sym e))) (mapped now_as js j b);
-  }
+  alike = alike_as world Before js judges standing_now ks (judged world Now ks judges_now) (there world Now ks judges_now)
 
   same_decision : decision all ≡ decision ks
   same_decision = rw (some_alike all ks alike satisfied_forbid, some_alike all ks alike satisfied_permit, some_alike all ks alike residual_permit, some_alike all ks alike residual_forbid) refl
@@ -167,7 +135,7 @@ module _ (sharp_rules : RulesAreSharp) (world : World) (facts : Facts) (q : Ques
 
   errs_still : (id : Text) (k : Kind) → HasFailed js id k → (l : Kind) × HasFailed ks id l
   errs_still id k h =
-      let (l, is) = of_standing h.policy.standing (standing_at (in_force_at world.policies h.policy.id)) k h.errs (stands_now h.policy h.among).1 in
+      let (l, is) = of_standing h.policy.standing (standing_at standing_now (in_force_at world.policies h.policy.id)) k h.errs (stands_now h.policy h.among).1 in
       (l, record { policy = now_as h.policy; among = alike.there (now_as h.policy) (mapped now_as js h.policy h.among); id_is = h.id_is; errs = is })
 
   pub holds : (early late : Answered) → Says js early → Says ks late → HoldsOf early late

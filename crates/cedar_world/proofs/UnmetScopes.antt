@@ -1,145 +1,42 @@
 -- A policy of which the scope doesn't hold has no part in any answer.
-use Rattle.std.proofs.Common.{◌≡◌, ◌⊎◌, inl, inr, Bool, true, false, cond, not, List, Option, Some, None, IsSome, IsTrue, is_some, option_map, map, refl, sym, ◌∙◌, ap, subst, true≢false}
-use Rattle.std.proofs.lemmas.Bool.{and_right}
-use Rattle.std.specs.Cmp.{both_ways}
+use Rattle.std.proofs.Common.{◌≡◌, ◌⊎◌, inl, inr, false, List, Option, Some, None, IsSome, IsTrue, is_some, option_map, map, refl, sym, ◌∙◌, ap, subst}
 use Rattle.std.specs.FinMap as finite
 use Rattle.cedar_language.specs.Uid.{Text, Uid}
 use Rattle.cedar_language.specs.Tree.{Boolean, Entity}
-use Rattle.cedar_language.specs.Value.{Plain, Kind, Outcome, Gives, Fails}
+use Rattle.cedar_language.specs.Value.{Plain, Kind, Gives}
 use Rattle.cedar_language.specs.Facts.{Facts}
-use Rattle.cedar_language.specs.Answering.{Effect, Standing, Satisfied, Unsatisfied, Erring, is_permit, is_satisfied, Judged, satisfied_forbid, satisfied_permit, some, known_decision, is_reason}
+use Rattle.cedar_language.specs.Answering.{Effect, Unsatisfied, Erring, Judged}
 use Rattle.cedar_language.specs.Authorization.{Known, request_at, standing_of}
-use Rattle.cedar_partial_evaluation.specs.Settling.{Is, kindless, MeaningIsSettled, leaf_settlings_of}
+use Rattle.cedar_partial_evaluation.specs.Settling.{Is, MeaningIsSettled, leaf_settlings_of}
 use Rattle.cedar_partial_evaluation.specs.Question.{part_settled, settled_of}
 use Rattle.cedar_partial_evaluation.specs.Filling as early
 use Rattle.cedar_world.specs.Answer.{has_id, Answer}
 use Rattle.cedar_grammar.specs.Bindings.{Bindings, linked}
 use Rattle.cedar_grammar.specs.Syntax.{PolicySyntax, condition, is_template}
-use Rattle.cedar_world.specs.World.{World, Bound, Policy, Link, only_template, template_of, template_at, standing_for, in_force, in_force_as, in_force_at}
+use Rattle.cedar_world.specs.World.{World, Policy, Link, only_template, template_of, template_at, in_force, in_force_as, in_force_at}
 use Rattle.cedar_world.specs.Asking.{Part, Given, Missing, Question, Told}
 use Rattle.cedar_world.specs.Setting.{Setting, means}
-use Rattle.cedar_world.specs.Answers.{judge, answer_of, known_answer, IsKnownAnswer, IsFair, IsPromptButKinds, NamesKinds, NamesNoGhosts, IsDecided, IsOut, AllOut, SomeHolds, SaysDecided, SaysKinds}
+use Rattle.cedar_world.specs.Answers.{judge, answer_of, known_answer, IsKnownAnswer, IsFair, IsPromptButKinds, NamesKinds, NamesNoGhosts, IsDecided, IsOut, AllOut, SaysDecided, SaysKinds}
 use Rattle.cedar_world.specs.Fillings.{IsFilling}
 use Rattle.cedar_world.specs.InForce.{AreAlike}
 use Rattle.cedar_world.specs.LinkLaws.{LinkLaws}
+use Rattle.cedar_world.specs.Standing.{Says, answer_by}
 use Rattle.cedar_world.specs.WorldFacts.{AreFactsOf, facts_of, WorldsHaveFacts}
 use Rattle.cedar_world.specs.UnmetScopes.{with_policy, with_link, parts_of, IsUnmet, IsUnmetIn, CanBeFilled, SaysNothing, UnmetScopesSayNothing, UnmetLinksSayNothing}
 use Rattle.cedar_world.proofs.Alike as alike
 use Rattle.cedar_world.proofs.Alike.{swapped, same_known as known_alike}
+use Rattle.cedar_world.proofs.Links.{templates_stay, others_stay}
 use Rattle.cedar_world.proofs.Parts.{not_none}
-use Rattle.cedar_world.proofs.Lists.{IsAmong, mapped, unmapped, some_of, of_some}
-use Rattle.cedar_world.proofs.Maps.{same_or_not, put_there, put_elsewhere}
+use Rattle.cedar_world.proofs.Lists.{IsAmong, mapped, unmapped}
+use Rattle.cedar_world.proofs.Maps.{same_or_not, put_there}
 use Rattle.cedar_world.proofs.InForce.{listed_in_force, in_force_listed}
-use Rattle.cedar_world.proofs.Ids.{the_value, HasPassed, with_id, id_with, same_ids, HasFailed, with_error, error_with, same_kinds}
+use Rattle.cedar_world.proofs.Ids.{the_value, error_with, answers_are_made}
+use Rattle.cedar_world.proofs.Agreeing.{gives_is}
+use Rattle.cedar_world.proofs.Closed.{whole, whole_closed, err_once, is_theirs}
+use Rattle.cedar_world.proofs.Unsatisfied.{said_with_them}
 use Rattle.cedar_world.proofs.Scope.{AreGiven, condition_is_unmet}
 
--- ---- policies that are judged, and unsatisfied ones besides
-
-module _ (js ks : List Judged) (there : (j : Judged) → IsAmong j js → IsAmong j ks) (back : (j : Judged) → IsAmong j ks → IsAmong j js ⊎ (j.standing ≡ Unsatisfied))
-    (once : (x y : Judged) → IsAmong x ks → IsAmong y ks → x.id ≡ y.id → x ≡ y) where
-  forbids_not : (j : Judged) → j.standing ≡ Unsatisfied → satisfied_forbid j ≡ false
-  forbids_not j e = and_right (not (is_permit j.effect)) (is_satisfied j.standing) (ap is_satisfied e)
-
-  permits_not : (j : Judged) → j.standing ≡ Unsatisfied → satisfied_permit j ≡ false
-  permits_not j e = and_right (is_permit j.effect) (is_satisfied j.standing) (ap is_satisfied e)
-
-  kept : (f : Judged → Bool) → ((j : Judged) → j.standing ≡ Unsatisfied → f j ≡ false) → (j : Judged) → IsAmong j ks → f j ≡ true → IsAmong j js
-  kept f fails j a h = elim (back j a) [
-    | inl b ↦ b
-    | inr e ↦ absurd (true≢false (sym h ∙ fails j e))
-  ]
-
-  some_same : (f : Judged → Bool) → ((j : Judged) → j.standing ≡ Unsatisfied → f j ≡ false) → some f js ≡ some f ks
-  some_same f fails =
-      both_ways (some f js) (some f ks)
-      (λ h. let u = of_some f js h in some_of f ks u.0 (there u.0 u.1) u.2)
-      (λ h. let u = of_some f ks h in some_of f js u.0 (kept f fails u.0 u.1 u.2) u.2)
-
-  same_decision : known_decision js ≡ known_decision ks
-  same_decision = rw (some_same satisfied_forbid forbids_not, some_same satisfied_permit permits_not) refl
-
-  same_reason : (j : Judged) → is_reason js j ≡ is_reason ks j
-  same_reason j = rw (some_same satisfied_forbid forbids_not) refl
-
-  reasons_not : (j : Judged) → j.standing ≡ Unsatisfied → is_reason ks j ≡ false
-  reasons_not j e = rw (forbids_not j e, permits_not j e) (never (some satisfied_forbid ks))
-    where
-      never : (b : Bool) → cond b false false ≡ false
-      never true = refl
-      never false = refl
-
-  reason_there : (id : Text) → HasPassed js (is_reason js) id → HasPassed ks (is_reason ks) id
-  reason_there id h = record { policy = h.policy; among = there h.policy h.among; id_is = h.id_is; passes = sym (same_reason h.policy) ∙ h.passes }
-
-  reason_back : (id : Text) → HasPassed ks (is_reason ks) id → HasPassed js (is_reason js) id
-  reason_back id h = record { policy = h.policy; among = kept (is_reason ks) reasons_not h.policy h.among h.passes; id_is = h.id_is; passes = same_reason h.policy ∙ h.passes }
-
-  same_reasons : (answer_of js).must ≡ (answer_of ks).must
-  same_reasons =
-      same_ids (answer_of js).must (answer_of ks).must
-      (λ id h. with_id ks (is_reason ks) id (reason_there id (id_with js (is_reason js) id h)))
-      (λ id h. with_id js (is_reason js) id (reason_back id (id_with ks (is_reason ks) id h)))
-
-  failed_there : (id : Text) (k : Kind) → HasFailed js id k → HasFailed ks id k
-  failed_there id k h = record { policy = h.policy; among = there h.policy h.among; id_is = h.id_is; errs = h.errs }
-
-  failed_back : (id : Text) (k : Kind) → HasFailed ks id k → HasFailed js id k
-  failed_back id k h = record { policy = h.policy; among = still; id_is = h.id_is; errs = h.errs }
-    where
-      still : IsAmong h.policy js
-      still = elim (back h.policy h.among) [
-        | inl b ↦ b
-        | inr e ↦ let never : Erring k ≡ Unsatisfied = sym h.errs ∙ e in cc
-      ]
-
-  one_kind : (id : Text) (k l : Kind) → HasFailed ks id k → HasFailed ks id l → k ≡ l
-  one_kind id k l x y =
-      let same : x.policy ≡ y.policy = once x.policy y.policy x.among y.among (x.id_is ∙ sym y.id_is) in
-      let kinds : Erring k ≡ Erring l = sym x.errs ∙ ap (λ (j : Judged). j.standing) same ∙ y.errs in cc
-
-  told_there : (id : Text) (k : Kind) → HasFailed ks id k → finite.get (answer_of ks).erring id ≡ Some k
-  told_there id k h =
-      let (l, is) = the_value (finite.get (answer_of ks).erring id) (with_error ks id k h) in
-      is ∙ ap Some (one_kind id l k (error_with ks id l is) h)
-
-  told_here : (id : Text) (k : Kind) → HasFailed js id k → finite.get (answer_of js).erring id ≡ Some k
-  told_here id k h =
-      let (l, is) = the_value (finite.get (answer_of js).erring id) (with_error js id k h) in
-      is ∙ ap Some (one_kind id l k (failed_there id l (error_with js id l is)) (failed_there id k h))
-
-  same_errors : (answer_of js).erring ≡ (answer_of ks).erring
-  same_errors =
-      same_kinds (answer_of js).erring (answer_of ks).erring
-      (λ id k h. told_there id k (failed_there id k (error_with js id k h)))
-      (λ id k h. told_here id k (failed_back id k (error_with ks id k h)))
-
-  same_answer : answer_of js ≡ answer_of ks
-  same_answer = λ i. record { decision = Some (same_decision i); must = same_reasons i; may = same_reasons i; erring = same_errors i }
-
 -- ---- the two worlds
-
-module _ (world : World) (id : Text) (v : Bound) (free : finite.get world.policies id ≡ None) (none : only_template v ≡ None) where
-  abbrev held : World
-  held = record world { policies = finite.insert world.policies id v }
-
-  templates_stay : (t : Text) → template_at held.policies t ≡ template_at world.policies t
-  templates_stay t = elim (same_or_not t id) [
-    | inl is ↦
-        ap (template_at held.policies) is ∙ ap template_of (put_there world.policies id v) ∙ none
-        ∙ sym (ap template_of free) ∙ sym (ap (template_at world.policies) is)
-    | inr differs ↦ ap template_of (put_elsewhere world.policies id v t differs)
-  ]
-
-  stands_same : (b : Bound) → standing_for held.policies b ≡ standing_for world.policies b
-  stands_same (Policy p) = refl
-  stands_same (Link t b) = ap (option_map (linked b)) (templates_stay t)
-
-  bound_same : (o : Option Bound) → in_force_as held.policies o ≡ in_force_as world.policies o
-  bound_same None = refl
-  bound_same (Some b) = stands_same b
-
-  others_stay : (x : Text) → (x ≡ id → ⊥) → in_force_at held.policies x ≡ in_force_at world.policies x
-  others_stay x differs = ap (in_force_as held.policies) (put_elsewhere world.policies id v x differs) ∙ bound_same (finite.get world.policies x)
 
 module _ (world : World) (id : Text) (s : PolicySyntax) (free : finite.get world.policies id ≡ None) (static : is_template s ≡ false) where
   abbrev other : World
@@ -149,7 +46,7 @@ module _ (world : World) (id : Text) (s : PolicySyntax) (free : finite.get world
   no_template = rw static refl
 
   elsewhere : (x : Text) → (x ≡ id → ⊥) → in_force_at other.policies x ≡ in_force_at world.policies x
-  elsewhere x differs = others_stay world id (Policy s) free no_template x differs
+  elsewhere x differs = others_stay world.policies id (Policy s) (ap template_of free) no_template x differs
 
   here : in_force_at other.policies id ≡ Some s
   here = ap (in_force_as other.policies) (put_there world.policies id (Policy s)) ∙ rw static refl
@@ -176,10 +73,10 @@ module _ (world : World) (id : Text) (s : PolicySyntax) (free : finite.get world
 
   module _ (facts : Facts) (request : Known) (unsatisfied : means facts request (condition s) ≡ Gives (Plain (Boolean false))) where
     abbrev judged_here : List Judged
-    judged_here = map (judge facts request) (in_force world.policies)
+    judged_here = whole world facts request
 
     abbrev judged_there : List Judged
-    judged_there = map (judge facts request) (in_force other.policies)
+    judged_there = whole other facts request
 
     there : (j : Judged) → IsAmong j judged_here → IsAmong j judged_there
     there j a =
@@ -195,18 +92,12 @@ module _ (world : World) (id : Text) (s : PolicySyntax) (free : finite.get world
           | inr added ↦ inr (sym (ap (λ (x : Judged). x.standing) is) ∙ ap (λ x. standing_of (means facts request (condition x))) added.1 ∙ ap standing_of unsatisfied)
         ]
 
-    once : (x y : Judged) → IsAmong x judged_there → IsAmong y judged_there → x.id ≡ y.id → x ≡ y
-    once x y a b e =
-        let (p, pa, p_is) = unmapped (judge facts request) (in_force other.policies) x a in
-        let (r, ra, r_is) = unmapped (judge facts request) (in_force other.policies) y b in
-        let ids : p.0 ≡ r.0 = ap (λ (j : Judged). j.id) p_is ∙ e ∙ sym (ap (λ (j : Judged). j.id) r_is) in
-        let one : ◌≡◌ {A = Option PolicySyntax} (Some p.1) (Some r.1) =
-        sym (listed_in_force other.policies p.0 p.1 pa) ∙ ap (in_force_at other.policies) ids ∙ listed_in_force other.policies r.0 r.1 ra in
-        let syntax : p.1 ≡ r.1 = cc in
-        sym p_is ∙ ap (judge facts request) (λ i. (ids i, syntax i)) ∙ r_is
-
+    -- what the rules give here says so there
     same_known : answer_of judged_there ≡ answer_of judged_here
-    same_known = sym (same_answer judged_here judged_there there back once)
+    same_known =
+        let says : Says judged_here (answer_by judged_here) = answers_are_made judged_here (err_once world facts request) in
+        sym (is_theirs judged_there (whole_closed other facts request) (answer_by judged_here) (said_with_them judged_here judged_there there back (answer_by judged_here) says))
+        ∙ is_theirs judged_here (whole_closed world facts request) (answer_by judged_here) says
 
   -- ---- a question with unknowns
 
@@ -231,16 +122,6 @@ module _ (world : World) (id : Text) (s : PolicySyntax) (free : finite.get world
       },
     )
 
-    decided_there : (x : Text) (effect : Effect) (standing : Standing) → IsDecided by world facts q told x effect standing → IsDecided by other facts q told x effect standing
-    decided_there x effect standing d = record {
-      syntax = d.syntax;
-      in_force = in_other x d.syntax d.in_force;
-      effect_is = d.effect_is;
-      result = d.result;
-      settles = d.settles;
-      standing_is = d.standing_is;
-    }
-
     decided_back : (x : Text) (effect : Effect) (k : Kind) → (x ≡ id → ⊥) → IsDecided by other facts q told x effect (Erring k) → IsDecided by world facts q told x effect (Erring k)
     decided_back x effect k differs d = record {
       syntax = d.syntax;
@@ -251,45 +132,26 @@ module _ (world : World) (id : Text) (s : PolicySyntax) (free : finite.get world
       standing_is = d.standing_is;
     }
 
-    out_there : (x : Text) (effect : Effect) → IsOut by world facts q told x effect → IsOut by other facts q told x effect
-    out_there x effect (standing, not, d) = (standing, not, decided_there x effect standing d)
-
     all_out_there : (effect : Effect) → AllOut by world facts q told effect → AllOut by other facts q told effect
     all_out_there effect out x p force e = elim (from_other x p force) [
-      | inl at ↦ out_there x effect (out x p at e)
+      | inl at ↦ alike.out_into by world other in_other facts q told x effect (out x p at e)
       | inr added ↦ subst (λ y. IsOut by other facts q told y effect) (sym added.0) (added_is_out effect (sym (ap (λ (y : PolicySyntax). y.effect) added.1) ∙ e))
     ]
 
-    some_there : (effect : Effect) → SomeHolds by world facts q told effect → SomeHolds by other facts q told effect
-    some_there effect (x, d) = (x, decided_there x effect Satisfied d)
-
     decided_said : (answer : Answer) → SaysDecided by other facts q told answer → SaysDecided by world facts q told answer
-    decided_said answer says = record {
-      denies = λ h. says.denies (some_there _ h);
-      denies_too = λ h. says.denies_too (all_out_there _ h);
-      allows = λ h k. says.allows (all_out_there _ h) (some_there _ k);
-      must_forbids = λ x d. says.must_forbids x (decided_there x _ _ d);
-      must_permits = λ h x d. says.must_permits (all_out_there _ h) x (decided_there x _ _ d);
-      may_not = λ x effect o. says.may_not x effect (out_there x effect o);
-      may_forbids = λ h x p k. says.may_forbids (some_there _ h) x p (in_other x p k);
-      erring = λ x effect k d. says.erring x effect k (decided_there x effect _ d);
-    }
+    decided_said = alike.decided_said by world other in_other facts q told all_out_there
 
     kinds_said : (answer : Answer) → SaysKinds by other facts q told answer → SaysKinds by world facts q told answer
     kinds_said answer says x effect k d =
-        let (l, named, still) = says x effect k (decided_there x effect _ d) in
+        let (l, named, still) = says x effect k (alike.decided_into by world other in_other facts q told x effect _ d) in
         (l, named, decided_back x effect l (differs_from x d.syntax d.in_force) still)
 
 -- ---- the law
 
 module _ (settled : MeaningIsSettled) (by : Setting) (world : World) (id : Text) (s : PolicySyntax) (free : finite.get world.policies id ≡ None) (static : is_template s ≡ false) where
-  means_false : (o : Outcome) → kindless o ≡ Is (Plain (Boolean false)) → o ≡ Gives (Plain (Boolean false))
-  means_false (Gives v) e = let is : v ≡ Plain (Boolean false) = cc in ap Gives is
-  means_false (Fails k) e = cc
-
   unsatisfied_at : (facts : Facts) (request : Known) (q : Question) → AreGiven facts (leaf_settlings_of (request_at request (λ x. None))) q → IsUnmet facts q s → means facts request (condition s) ≡ Gives (Plain (Boolean false))
   unsatisfied_at facts request q given unmet =
-      means_false (means facts request (condition s))
+      gives_is (means facts request (condition s)) (Plain (Boolean false))
       (sym (settled facts (request_at request (λ x. None)) (condition s)) ∙ condition_is_unmet facts (leaf_settlings_of (request_at request (λ x. None))) q given s static unmet)
 
   own_parts : (facts : Facts) (request : Known) → AreGiven facts (leaf_settlings_of (request_at request (λ x. None))) (parts_of request)
@@ -317,14 +179,14 @@ module _ (settled : MeaningIsSettled) (by : Setting) (world : World) (id : Text)
       } in
       known_there facts request (unsatisfied_at facts request q given (unmet facts are))
 
-  known_with : (q : Question) (filling : Told) (request : Known) (whole : Answer) → IsFilling by q filling request → IsUnmetIn by world q s
-      → IsKnownAnswer by world request whole → IsKnownAnswer by (with_policy world id s) request whole
-  known_with q filling request whole filled unmet known =
+  known_with : (q : Question) (filling : Told) (request : Known) (answer : Answer) → IsFilling by q filling request → IsUnmetIn by world q s
+      → IsKnownAnswer by world request answer → IsKnownAnswer by (with_policy world id s) request answer
+  known_with q filling request answer filled unmet known =
       record { facts = known.facts; facts_are = known.facts_are; is = known.is ∙ sym (filled_known q filling request filled unmet known.facts known.facts_are) }
 
-  known_without : (q : Question) (filling : Told) (request : Known) (whole : Answer) → IsFilling by q filling request → IsUnmetIn by world q s
-      → IsKnownAnswer by (with_policy world id s) request whole → IsKnownAnswer by world request whole
-  known_without q filling request whole filled unmet known =
+  known_without : (q : Question) (filling : Told) (request : Known) (answer : Answer) → IsFilling by q filling request → IsUnmetIn by world q s
+      → IsKnownAnswer by (with_policy world id s) request answer → IsKnownAnswer by world request answer
+  known_without q filling request answer filled unmet known =
       record { facts = known.facts; facts_are = known.facts_are; is = known.is ∙ filled_known q filling request filled unmet known.facts known.facts_are }
 
   fair_there : (q : Question) (told : Told) (answer : Answer) → IsUnmetIn by world q s → IsFair by (with_policy world id s) q told answer → IsFair by world q told answer
@@ -400,14 +262,14 @@ module _ (world : World) (id template : Text) (b : Bindings) (s : PolicySyntax) 
   link_here : in_force_at (with_link world id template b).policies id ≡ Some (linked b s)
   link_here =
       ap (in_force_as (with_link world id template b).policies) (put_there world.policies id (Link template b))
-      ∙ ap (option_map (linked b)) (templates_stay world id (Link template b) free refl template ∙ template_is)
+      ∙ ap (option_map (linked b)) (templates_stay world.policies id (Link template b) (ap template_of free) refl template ∙ template_is)
 
   link_at : (x : Text) → (x ≡ id) ⊎ (x ≡ id → ⊥)
       → in_force_at (with_policy world id (linked b s)).policies x ≡ in_force_at (with_link world id template b).policies x
   link_at x (inl is) =
       ap (in_force_at (with_policy world id (linked b s)).policies) is ∙ here world id (linked b s) free static
       ∙ sym link_here ∙ sym (ap (in_force_at (with_link world id template b).policies) is)
-  link_at x (inr differs) = elsewhere world id (linked b s) free static x differs ∙ sym (others_stay world id (Link template b) free refl x differs)
+  link_at x (inr differs) = elsewhere world id (linked b s) free static x differs ∙ sym (others_stay world.policies id (Link template b) (ap template_of free) refl x differs)
 
   link_alike : AreAlike (with_policy world id (linked b s)) (with_link world id template b)
   link_alike = record { entities = refl; policies = λ x. link_at x (same_or_not x id) }

@@ -8,7 +8,7 @@ use Rattle.cedar_language.specs.Order.{text_cmp}
 use Rattle.cedar_language.specs.Constructing.{is_the_constructor}
 use Rattle.cedar_language.specs.Height.{height, heights}
 use Rattle.cedar_language.specs.Slots.{Slots, bound_slot, bound_tree, bound_trees}
-use Rattle.cedar_language.specs.Tree.{SlotId, Principal, Action, Resource, Context, GetTag, GetAttr, Call, Tree, Lit, Var, Slot, Unknown, If, And, Or, Apply, Trees, no_trees, a_tree}
+use Rattle.cedar_language.specs.Tree.{SlotId, Principal, Action, Resource, Context, GetTag, GetAttr, Call, Tree, Var, Slot, Unknown, If, And, Or, Apply, Trees, no_trees, a_tree}
 use Rattle.cedar_language.specs.Value.{Value}
 use Rattle.cedar_grammar.specs.Syntax.{condition}
 use Rattle.cedar_world.specs.Asking.{Question, Told}
@@ -25,14 +25,12 @@ slot_grows h s None = refl
 
 mutual
   pub bound_grows : (h : Heights) (slots : Slots) (t : Tree) → grown h (bound_tree slots t) ≡ grown h t
-  bound_grows h slots (Lit l) = refl
-  bound_grows h slots (Var v) = refl
   bound_grows h slots (Slot s) = slot_grows h s (slots s)
-  bound_grows h slots (Unknown n ty) = refl
   bound_grows h slots (If a b c) = rw (bound_grows h slots a, bound_grows h slots b, bound_grows h slots c) refl
   bound_grows h slots (And a b) = rw (bound_grows h slots a, bound_grows h slots b) refl
   bound_grows h slots (Or a b) = rw (bound_grows h slots a, bound_grows h slots b) refl
   bound_grows h slots (Apply o ts) = rw (all_bound_grow h slots ts) refl
+  bound_grows h slots _ = refl
 
   all_bound_grow : (h : Heights) (slots : Slots) (ts : Trees) → all_grown h (bound_trees slots ts) ≡ all_grown h ts
   all_bound_grow h slots no_trees = refl
@@ -50,12 +48,10 @@ module _ (h : Heights) (principal : h.named (codes "principal") ≤ 1) (action :
 
   mutual
     unread_low : (t : Tree) → reads_nothing t ≡ true → grown h t ≤ height t
-    unread_low (Lit l) r = omega arith
     unread_low (Var Principal) r = principal
     unread_low (Var Action) r = action
     unread_low (Var Resource) r = resource
     unread_low (Var Context) r = cc
-    unread_low (Slot s) r = omega arith
     unread_low (Unknown n ty) r = cc
     unread_low (If a b c) r =
         let (x, rest) = and_parts (reads_nothing a) (reads_nothing b && reads_nothing c) r in
@@ -69,6 +65,7 @@ module _ (h : Heights) (principal : h.named (codes "principal") ≤ 1) (action :
         let (x, y) = and_parts (is_the_constructor f) (all_read_nothing ts) r in
         max-le (omega (arith, called_low (is_the_constructor f) h.answered x)) (omega (arith, all_unread_low ts y))
     unread_low (Apply op ts) r = omega (arith, all_unread_low ts r)
+    unread_low _ r = omega arith
 
     all_unread_low : (ts : Trees) → all_read_nothing ts ≡ true → all_grown h ts ≤ heights ts
     all_unread_low no_trees r = omega arith

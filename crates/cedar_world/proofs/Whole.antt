@@ -1,9 +1,9 @@
 -- Once all is told, what the rules say of policies is all.
-use Rattle.std.proofs.Common.{◌≡◌, ◌⊎◌, inl, inr, Bool, true, false, cond, not, ◌||◌, List, Some, is_some, IsTrue, IsSome, refl, sym, ◌∙◌, ap}
+use Rattle.std.proofs.Common.{◌≡◌, ◌⊎◌, inl, inr, false, List, Some, is_some, IsTrue, IsSome, sym, ◌∙◌, ap}
 use Rattle.std.specs.FinMap as finite
 use Rattle.cedar_language.specs.Uid.{Text}
 use Rattle.cedar_language.specs.Facts.{Facts}
-use Rattle.cedar_language.specs.Answering.{Standing, is_permit, is_residual, Judged, satisfied_forbid, satisfied_permit, residual_forbid, residual_permit, some, Decision, Allow, Deny, known_decision, decision_by, in_must, in_may}
+use Rattle.cedar_language.specs.Answering.{Standing, is_residual, Judged, Decision, known_decision, in_must, in_may}
 use Rattle.cedar_language.specs.Authorization.{Known}
 use Rattle.cedar_partial_evaluation.specs.Filling as early
 use Rattle.cedar_grammar.specs.Syntax.{PolicySyntax}
@@ -14,21 +14,11 @@ use Rattle.cedar_world.specs.Setting.{Setting, functions_alone}
 use Rattle.cedar_world.specs.Answers.{judge, known_answer}
 use Rattle.cedar_world.specs.Standing.{Judges, Says}
 use Rattle.cedar_world.specs.Sound.{IsSoundLater}
-use Rattle.cedar_language.proofs.Booleans.{or_false}
 use Rattle.cedar_world.proofs.Lists.{IsAmong, unmapped}
-use Rattle.cedar_world.proofs.Members.{the_value, passed, has_passed, HasPassed, failed, has_failed}
-use Rattle.cedar_world.proofs.KnownLater.{Laws, listed_in_force, no_open, no_open_permit, no_open_forbid, whole, says_known}
-use Rattle.cedar_world.proofs.Beside.{judged, there}
-use Rattle.cedar_world.proofs.Allowed.{here}
-
-decided_by : (sf sp : Bool) → decision_by sf sp false false ≡ Some (cond sf Deny (cond sp Allow Deny))
-decided_by true sp = refl
-decided_by false true = refl
-decided_by false false = refl
-
-may_by : (sf a b : Bool) → cond sf (a || false) (b || false || false) ≡ cond sf a b
-may_by true a b = or_false a
-may_by false a b = or_false (b || false) ∙ or_false b
+use Rattle.cedar_world.proofs.InForce.{listed_in_force}
+use Rattle.cedar_world.proofs.Ids.{the_value, passed, has_passed, HasPassed, has_failed, error_with}
+use Rattle.cedar_world.proofs.Closed.{decision_is, must_is, may_is, whole}
+use Rattle.cedar_world.proofs.Beside.{judged, there, here}
 
 -- the answer leaves nothing open, and an error of the whole one is told, or the policy erred first
 pub record IsAll (world : World) (Erred : PolicySyntax → Type 0) (a known : Answer) : Type 0 where
@@ -36,32 +26,24 @@ pub record IsAll (world : World) (Erred : PolicySyntax → Type 0) (a known : An
   pub may : (id : Text) → IsTrue (has_id a.may id) → IsTrue (has_id a.must id)
   pub erring : (id : Text) → IsSome (finite.get known.erring id) → IsSome (finite.get a.erring id) ⊎ ((s : PolicySyntax) × (in_force_at world.policies id ≡ Some s) × Erred s)
 
-module _ (laws : Laws) (by : Setting) (world : World) (facts : Facts) (q : Question) (told : Told) (Stands : PolicySyntax → Standing → Type 0) (Erred : PolicySyntax → Type 0)
+module _ (by : Setting) (world : World) (facts : Facts) (q : Question) (told : Told) (Stands : PolicySyntax → Standing → Type 0) (Erred : PolicySyntax → Type 0)
     (sound : IsSoundLater by world facts q told Stands Erred) (js : List Judged) (judges : Judges world Stands js) (request : Known) (fills : early.IsFilling (functions_alone by.functions) q told request) where
   closed : (j : Judged) → IsAmong j js → is_residual j.standing ≡ false
   closed j a = let h = judged world Stands js judges j a in (sound.exact j.id h.syntax h.in_force j.standing h.standing request fills).0
 
   may_must : (id : Text) → HasPassed js (in_may js) id → HasPassed js (in_must js) id
-  may_must id h =
-      let permit : residual_permit h.policy ≡ false = no_open js closed (is_permit h.policy.effect) h.policy h.among in
-      let forbid : residual_forbid h.policy ≡ false = no_open js closed (not (is_permit h.policy.effect)) h.policy h.among in
-      let may_is : in_may js h.policy ≡ cond (some satisfied_forbid js) (satisfied_forbid h.policy) (satisfied_permit h.policy) =
-      rw (permit, forbid) (may_by (some satisfied_forbid js) (satisfied_forbid h.policy) (satisfied_permit h.policy)) in
-      let must_is : in_must js h.policy ≡ cond (some satisfied_forbid js) (satisfied_forbid h.policy) (satisfied_permit h.policy) =
-      rw (no_open_forbid js closed) (rw (or_false (some satisfied_forbid js)) refl) in
-      record { policy = h.policy; among = h.among; id_is = h.id_is; passes = must_is ∙ sym may_is ∙ h.passes }
+  may_must id h = record { policy = h.policy; among = h.among; id_is = h.id_is; passes = must_is js closed h.policy ∙ sym (may_is js closed h.policy h.among) ∙ h.passes }
 
   module _ (answer : Answer) (says : Says js answer) where
     errs : (id : Text) → IsSome (finite.get (known_answer by world facts request).erring id) → IsSome (finite.get answer.erring id) ⊎ ((s : PolicySyntax) × (in_force_at world.policies id ≡ Some s) × Erred s)
     errs id some_error =
-        let known = whole laws by world facts request in
         let (k, got) = the_value (finite.get (known_answer by world facts request).erring id) some_error in
-        let f = failed known id k (((says_known laws by world facts request).erring id k).0 got) in
+        let f = error_with (whole world facts request) id k got in
         let (p, among, is) = unmapped (judge facts request) (in_force world.policies) f.policy f.among in
         let same : p.0 ≡ id = ap (λ (x : Judged). x.id) is ∙ f.id_is in
-        let force : in_force_at world.policies id ≡ Some p.1 = ap (in_force_at world.policies) (sym same) ∙ listed_in_force laws world p among in
+        let force : in_force_at world.policies id ≡ Some p.1 = ap (in_force_at world.policies) (sym same) ∙ listed_in_force world.policies p.0 p.1 among in
         let (j, a, j_is) = there world Stands js judges id p.1 force in
-        let h = here by world facts q told Stands Erred sound js judges j a id j_is p.1 force in
+        let h = here world Stands js judges j a id j_is p.1 force in
         elim ((sound.exact id p.1 force j.standing h.stands request fills).1 k (ap (λ (x : Judged). x.standing) is ∙ f.errs)) [
           | inl e ↦ inl (ap is_some ((says.erring id e.0).1 (has_failed js id e.0 (record { policy = j; among = a; id_is = j_is; errs = e.1 }))))
           | inr e ↦ inr (p.1, force, e)
@@ -69,7 +51,7 @@ module _ (laws : Laws) (by : Setting) (world : World) (facts : Facts) (q : Quest
 
     pub says_all : IsAll world Erred answer (known_answer by world facts request)
     says_all = record {
-      decision = (known_decision js, says.decision ∙ rw (no_open_permit js closed, no_open_forbid js closed) (decided_by (some satisfied_forbid js) (some satisfied_permit js)));
+      decision = (known_decision js, says.decision ∙ decision_is js closed);
       may = λ id h. (says.must id).1 (has_passed js (in_must js) id (may_must id (passed js (in_may js) id ((says.may id).0 h))));
       erring = errs;
     }

@@ -1,5 +1,5 @@
 -- No step leaves a link without its template.
-use Rattle.std.proofs.Common.{◌≡◌, ◌⊎◌, inl, inr, ℕ, suc, Bool, true, false, not, if◌then◌else◌, Option, Some, None, is_some, List, [], ◌∷◌, refl, sym, ◌∙◌, ap, subst, true≢false}
+use Rattle.std.proofs.Common.{◌≡◌, ◌⊎◌, inl, inr, ℕ, suc, Bool, true, false, not, if◌then◌else◌, Option, Some, None, is_some, List, ◌∷◌, refl, sym, ◌∙◌, ap, subst, true≢false}
 use Rattle.std.specs.FinMap as map
 use Rattle.cedar_language.specs.Uid as uid
 use Rattle.cedar_language.specs.Tree.{Tree}
@@ -9,12 +9,13 @@ use Rattle.cedar_world.specs.World.{World, Policies, Bound, Policy, Link as Link
 use Rattle.cedar_world.specs.PolicyEdits.{HasRoom, Names, joined, Loads}
 use Rattle.cedar_world.specs.Bodies.{LinkBody, link_body, string_of}
 use Rattle.cedar_world.specs.Setting.{Setting, IsBody}
-use Rattle.cedar_world.specs.Commands.{Load, Link, Unlink, RemoveStatic, RemoveTemplate, Add, Put, Remove, Ask, Tell, Refusal, Text, Depth, NotRestricted, Shape, NoSuchTemplate, NotTemplate, Arity, IdConflict, NotLink, NoSuchPolicy, HasLinks, NotStatic, Done, Named, Answered, Refused}
+use Rattle.cedar_world.specs.Commands.{Load, Link, Unlink, RemoveStatic, RemoveTemplate, Refusal, Text, Depth, NotRestricted, Shape, NoSuchTemplate, NotTemplate, Arity, IdConflict, NotLink, NoSuchPolicy, HasLinks, NotStatic, Done, Named}
 use Rattle.cedar_world.specs.Refusals.{is_link, is_static, LinkCases, Stands}
 use Rattle.cedar_world.specs.LinkLaws.{LinksAreWhole, LinksStayWhole}
 use Rattle.cedar_world.proofs.Parts.{not_none, same_some}
 use Rattle.cedar_world.proofs.Maps.{same_or_not, put_there, put_elsewhere, gone_there, gone_elsewhere}
 use Rattle.cedar_world.proofs.Standing.{none_stands}
+use Rattle.cedar_world.proofs.Steps.{edits_policies}
 
 linked_policy : Bound → Bool
 linked_policy (Policy s) = false
@@ -68,12 +69,11 @@ module _ (old m : Policies) (grows : Grows old m) (id : uid.Text) (s : PolicySyn
           here (inr other) = grows.links q template b (sym (put_elsewhere m id (Policy s) q other) ∙ e)
 
 loads_grow : (old m : Policies) (count i from : ℕ) (ss : List PolicySyntax) (ids : List uid.Text) → Grows old m → Names old count i from ss ids → Grows old (joined m ss ids)
-loads_grow old m count i from [] ids grows names = grows
-loads_grow old m count i from (s ∷ ss) [] grows names = grows
 loads_grow old m count i from (s ∷ ss) (id ∷ ids) grows (inl names) =
     loads_grow old (map.insert m id (Policy s)) count (suc i) from ss ids (grows_more old m grows id s (subst (λ x. HasRoom old x s) (sym names.1) names.0)) names.2
 loads_grow old m count i from (s ∷ ss) (id ∷ ids) grows (inr names) =
     loads_grow old (map.insert m id (Policy s)) count (suc i) (suc names.0) ss ids (grows_more old m grows id s (subst (λ x. HasRoom old x s) (sym names.3) (inl names.2.free.0))) names.4
+loads_grow old m count i from _ _ grows names = grows
 
 loaded_whole : (old new : Policies) (ss : List PolicySyntax) (ids : List uid.Text) → Loads old ss ids new → LinksAreWhole old → LinksAreWhole new
 loaded_whole old new ss ids loads whole =
@@ -187,7 +187,6 @@ same_whole : (old new : Policies) → new ≡ old → LinksAreWhole old → Link
 same_whole old new e whole = subst LinksAreWhole (sym e) whole
 
 pub links_stay_whole : LinksStayWhole
-links_stay_whole by old new verb text (Refused r) step whole = same_whole _ _ (ap (λ w. w.policies) step.1) whole
 links_stay_whole by old new Load text (Named ids) step whole = loaded_whole old.policies new.policies step.1.0 ids step.1.2.0 whole
 links_stay_whole by old new Link text Done step whole =
     let none = link_cases_none by old text step.1.0 step.1.2 step.1.1 step.1.3 (none_stands by old text Link (λ r h. step.0 r h)) in
@@ -201,9 +200,4 @@ links_stay_whole by old new RemoveStatic text Done step whole =
 links_stay_whole by old new RemoveTemplate text Done step whole =
     let none = none_stands by old text RemoveTemplate (λ r h. step.0 r h) in
     same_whole _ _ step.1.4.0 (removed_whole old.policies step.1.1 (λ id b e other. none HasLinks (step.1.0, step.1.1, step.1.2, step.1.3, (id, b, e))) whole)
-links_stay_whole by old new Add text Done step whole = same_whole _ _ (ap (λ w. w.policies) step.1.4.2.1) whole
-links_stay_whole by old new Put text Done step whole = same_whole _ _ (ap (λ w. w.policies) step.1.4.2.1) whole
-links_stay_whole by old new Remove text Done step whole = same_whole _ _ (ap (λ w. w.policies) step.1.4.1) whole
-links_stay_whole by old new Ask text (Answered answer) step whole = same_whole _ _ (ap (λ w. w.policies) step.1.4.1) whole
-links_stay_whole by old new Tell text (Answered answer) step whole = same_whole _ _ (ap (λ w. w.policies) step.1.4.5) whole
-links_stay_whole by old new verb text reply step whole = absurd step.1
+links_stay_whole by old new verb text reply step whole = same_whole _ _ (edits_policies by old new verb text reply step) whole

@@ -4,7 +4,7 @@ use Rattle.std.proofs.Math.Nat.{le-max_right}
 use Rattle.std.proofs.lemmas.Bool.{cases_lt}
 use Rattle.std.specs.FinMap as finite
 use Rattle.cedar_language.specs.Uid.{Text, Uid}
-use Rattle.cedar_language.specs.Tree.{Variable, Principal, Action, Resource, Context, ValueType, SlotId, Operator, GetTag, GetAttr, MakeRecord, Call, Tree, Lit, Var, Slot, Unknown, If, And, Or, Apply, Trees, no_trees, a_tree}
+use Rattle.cedar_language.specs.Tree.{Variable, Principal, Action, Resource, Context, ValueType, SlotId, Operator, GetTag, GetAttr, MakeRecord, Call, Tree, Var, Unknown, If, And, Or, Apply, Trees, no_trees, a_tree}
 use Rattle.cedar_language.specs.Value.{Value}
 use Rattle.cedar_language.specs.Facts as language
 use Rattle.cedar_language.specs.Facts.{Facts}
@@ -70,12 +70,6 @@ module _ (by : Setting) (world : World) (q : Question) (told : Told) (h : Height
       either_way (inl high) = omega arith
       either_way (inr low) = omega (arith, some_context q.context, are.context low)
 
-  some_variable : (v : Variable) → 1 ≤ variable_height h v
-  some_variable Principal = some_named (codes "principal")
-  some_variable Action = some_named (codes "action")
-  some_variable Resource = some_named (codes "resource")
-  some_variable Context = some_held
-
   -- ---- the highest of what is written
 
   module _ (most : ℕ) (at_most : AreAtMost h most) where
@@ -100,14 +94,13 @@ module _ (by : Setting) (world : World) (q : Question) (told : Told) (h : Height
 
     mutual
       pub grows_by : (t : Tree) → grown h t < height t + most
-      grows_by (Lit l) = omega (arith, some_most)
       grows_by (Var v) = omega (arith, variable_low v)
-      grows_by (Slot s) = omega (arith, some_most)
       grows_by (Unknown n ty) = omega (arith, at_most.named n)
       grows_by (If a b c) = omega (arith, grows_by a, grows_by b, grows_by c)
       grows_by (And a b) = omega (arith, grows_by a, grows_by b)
       grows_by (Or a b) = omega (arith, grows_by a, grows_by b)
       grows_by (Apply op ts) = omega (arith, read_low op, all_grow_by ts)
+      grows_by _ = omega (arith, some_most)
 
       all_grow_by : (ts : Trees) → all_grown h ts < heights ts + most
       all_grow_by no_trees = omega (arith, some_most)

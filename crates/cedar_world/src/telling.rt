@@ -99,22 +99,12 @@ pub fn answers_err_ordinarily()
 /// A first answer stays true, whatever is told later.
 pub fn first_answers_are_steady()
     ensures { FirstAnswersAreSteady }
-{
-    crate::worlds_have_facts();
-    crate::answers_read_what_is_in_force();
-    crate::answers_are_made();
-    cedar_language::rules_are_fair();
-}
+{}
 
 /// What the rules say of policies that are taken up again, joined with the last answer, is the answer once more is told.
 pub fn later_answers_stand()
     ensures { LaterAnswersStand }
-{
-    crate::worlds_have_facts();
-    crate::answers_read_what_is_in_force();
-    crate::answers_are_made();
-    cedar_language::rules_are_fair();
-}
+{}
 
 /// A question that states types of what is missing is answered at least as sharply as the one that states none.
 pub fn typed_questions_are_sharper()

@@ -110,7 +110,8 @@ impl ScopeIndex {
         &self.others
     }
 
-    /// Covers the next position, at which this policy stands. Refused for memory alone; it isn't covered then.
+    /// Covers the next position, at which this policy stands. Refused for memory alone; it isn't covered then. That it
+    /// is found by an entity of its scope, in place of by none, no contract says: it saves looks alone.
     pub fn push(&mut self, alloc: Global, policy: &Policy) -> Result<(), AllocError>
         requires { covered self.old < 2 ^ 63 }
         ensures covered { OnOk result (covered self.new ≡ covered self.old + 1) }
@@ -134,7 +135,8 @@ impl ScopeIndex {
     }
 
     /// A position of the set is taken out, and those behind it move up. Nothing is covered any more where
-    /// more than half of the places were taken out already, or where memory lacks.
+    /// more than half of the places were taken out already, or where memory lacks; that it is so only there, no
+    /// contract says.
     pub fn take_out(&mut self, alloc: Global, position: usize)
         requires { covered self.old < 2 ^ 63 }
         ensures within { covered self.new ≤ covered self.old }

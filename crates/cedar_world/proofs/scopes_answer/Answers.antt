@@ -3,4 +3,4 @@ use Rattle.cedar_world.proofs.Plain.{scopes_answer as law}
 use Rattle.cedar_world.proofs.scopes_answer.Goals as goal
 
 pub returns : goal.returns
-returns c = law c.known_trees_settle.ensures
+returns c = law c.first_answers_stand.ensures

@@ -1,4 +1,4 @@
--- The error isn't want of memory (Checked).
+-- The first error isn't want of memory, so that no session loads the text (Checked).
 use Rattle.std.proofs.Common.{refl, sym, subst}
 use Rattle.cedar_language.specs.Uid.{Text}
 use Rattle.cedar_parser.specs.Errors.{cause_of}
@@ -6,7 +6,7 @@ use Rattle.cedar_parser.specs.ErrorsLeft.{errors_of}
 use Rattle.cedar_session.specs.Programs.{setting_within}
 use Rattle.cedar_authoring.specs.Faults.{TellsFault}
 use Rattle.cedar_authoring.specs.Telling.{TellsEach}
-use Rattle.cedar_authoring.proofs.Checked.{known_cause, unloaded}
+use Rattle.cedar_authoring.proofs.Checked.{unloaded}
 use Rattle.cedar_authoring.proofs.checking.refuse_unread.Goals as goal
 
 pub returns : goal.returns
@@ -19,10 +19,11 @@ returns c =
       faults = record {
         by = by;
         program = (c.args.extensions.now, c.requires.program, refl);
-        unloaded = unloaded by text (cause_of errors.0.head) (known_cause errors.0.head c.in_default.not-Memory) c.requires.unread.refused;
+        unloaded = unloaded by text (cause_of errors.0.head) c.in_ok-told.ensures.0 c.requires.unread.refused;
         errors = errors;
         unread = c.requires.unread;
-        lines = subst P (sym c.refused.ensures.text) c.in_ok-told.ensures;
+        fed = c.in_ok-told.ensures.0;
+        lines = subst P (sym c.refused.ensures.text) c.in_ok-told.ensures.1;
       };
       status = c.refused.ensures.status;
     }

@@ -9,9 +9,12 @@ use Rattle.cedar_session.specs.Sessions.{setting_of, world_of}
 use Rattle.cedar_world.specs.Commands.{Load, Put, Ask, Named, Done, Answered, Refused}
 use Rattle.cedar_world.specs.Setting.{Setting}
 use Rattle.cedar_world.specs.World.{new_world}
-use Rattle.cedar_authoring.specs.Explaining.{status_of, IsUnexplained, TellsAnswered, TellsExplained, policies_refused, entities_refused, question_refused}
+use Rattle.cedar_authoring.specs.Checks.{TellsFaults}
+use Rattle.cedar_authoring.specs.Explaining.{status_of, TellsAnswered, TellsExplained, TellsUnexplained, policies_refused, entities_refused, question_refused}
+use Rattle.cedar_authoring.specs.RefusedBodies.{TellsBody}
+use Rattle.cedar_authoring.specs.Titles.{titled_text}
 use Rattle.cedar_authoring.specs.declared.checking.Report.{Report}
-use Rattle.cedar_authoring.proofs.Refusals.{never_one, unless_memory, both_ok, stepped}
+use Rattle.cedar_authoring.proofs.Refusals.{body_told, never_one, unless_memory, both_ok, stepped}
 use Rattle.cedar_authoring.proofs.explaining.explain_texts.Goals as goal
 
 pub returns-in-Err-clause-refused : goal.returns-in-Err-clause-refused
@@ -20,9 +23,13 @@ returns-in-Err-clause-refused c =
     let start = c.in-Ok.session in
     let new = world_of c.load.new.self in
     let r = c.in-Err.refusal in
-    let step = stepped (setting_of start) by (world_of start) new_world new Load c.args.policies.text.now (Refused (refusal_of r)) c.in-Ok.ensures.setting c.in-Ok.ensures.world c.in-Err.ensures.step in
-    unless_memory c.tell_refusal.result r c.of-command.result.refusal (λ (report : Report). report.status ≡ 1) c.of-command.ensures c.tell_refusal.ensures.other
-    (λ other. inr (by, (c.in_ok-extensions.extensions, c.in_ok-extensions.ensures.alone, refl), policies_refused (new, refusal_of r, other, step)))
+    let name = c.args.policies.name.now in
+    let text = c.args.policies.text.now in
+    let step = stepped (setting_of start) by (world_of start) new_world new Load text (Refused (refusal_of r)) c.in-Ok.ensures.setting c.in-Ok.ensures.world c.in-Err.ensures.step in
+    let Q : Report → Type 0 = λ report. TellsFaults name text (string_bytes report.text) in
+    let R : Report → Type 0 = λ report. TellsUnexplained (titled_text c.args.policies) (titled_text c.args.entities) (titled_text c.args.question) (string_bytes report.text) in
+    unless_memory c.refuse_load.result r r (λ (report : Report). report.status ≡ 1) Q R refl c.refuse_load.ensures.other c.refuse_load.ensures.told
+    (λ report other told. inr (by, (c.in_ok-extensions.extensions, c.in_ok-extensions.ensures.alone, refl), policies_refused (new, refusal_of r, other, step, told)))
 
 pub returns-in-Err-put-clause-refused : goal.returns-in-Err-put-clause-refused
 returns-in-Err-put-clause-refused c =
@@ -32,10 +39,18 @@ returns-in-Err-put-clause-refused c =
     let new = world_of c.put.new.self in
     let ids = c.in-Ok-load.ids.items in
     let r = c.in-Err-put.refusal in
+    let command = c.of-command.result in
     let loads = stepped (setting_of start) by (world_of start) new_world loaded Load c.args.policies.text.now (Named ids) c.in-Ok.ensures.setting c.in-Ok.ensures.world c.in-Ok-load.ensures.step in
     let step = stepped (setting_of c.load.new.self) by loaded loaded new Put c.args.entities.text.now (Refused (refusal_of r)) (c.in-Ok-load.ensures.setting ∙ c.in-Ok.ensures.setting) refl c.in-Err-put.ensures.step in
-    unless_memory c.tell_refusal-in-Err-put.result r c.of-command-in-Err-put.result.refusal (λ (report : Report). report.status ≡ 1) c.of-command-in-Err-put.ensures c.tell_refusal-in-Err-put.ensures.other
-    (λ other. inr (by, (c.in_ok-extensions.extensions, c.in_ok-extensions.ensures.alone, refl), entities_refused ids loaded loads (new, refusal_of r, other, step)))
+    let Q : Report → Type 0 = λ report. TellsBody by command.source.name.now command.source.text.now (refusal_of command.refusal) (string_bytes report.text) in
+    let R : Report → Type 0 = λ report. TellsUnexplained (titled_text c.args.policies) (titled_text c.args.entities) (titled_text c.args.question) (string_bytes report.text) in
+    unless_memory c.tell_refusal.result r command.refusal (λ (report : Report). report.status ≡ 1) Q R c.of-command.ensures.refusal c.tell_refusal.ensures.other c.tell_refusal.ensures.told
+    (λ report other told. inr (
+      by,
+      (c.in_ok-extensions.extensions, c.in_ok-extensions.ensures.alone, refl),
+      entities_refused ids loaded loads
+          (new, refusal_of r, other, step, body_told by command.source c.args.entities command.refusal r (string_bytes report.text) c.of-command.ensures.source c.of-command.ensures.refusal told),
+    ))
 
 pub returns-in-Ok-ask-clause-explained : goal.returns-in-Ok-ask-clause-explained
 returns-in-Ok-ask-clause-explained c =
@@ -75,7 +90,7 @@ pub returns-in-Ok-ask-clause-refused : goal.returns-in-Ok-ask-clause-refused
 returns-in-Ok-ask-clause-refused c =
     let decided = (answer_of c.in-Ok-ask.answer).decision in
     let P : Report → Type 0 = λ report. report.status ≡ status_of decided in
-    let Q : Report → Type 0 = λ report. report.status ≡ 1 → IsUnexplained c.args.policies.text.now c.args.entities.text.now c.args.question.text.now in
+    let Q : Report → Type 0 = λ report. report.status ≡ 1 → TellsUnexplained (titled_text c.args.policies) (titled_text c.args.entities) (titled_text c.args.question) (string_bytes report.text) in
     IfOk-weaker c.explain.result P Q (λ report decides is. absurd (never_one decided (sym decides ∙ is))) c.explain.ensures.status
 
 pub returns-clause-refused : goal.returns-clause-refused
@@ -92,5 +107,13 @@ returns-clause-refused c =
     let loads = stepped (setting_of start) by (world_of start) new_world loaded Load c.args.policies.text.now (Named ids) c.in-Ok.ensures.setting c.in-Ok.ensures.world c.in-Ok-load.ensures.step in
     let puts = stepped (setting_of c.load.new.self) by loaded loaded held Put c.args.entities.text.now Done after_load refl c.in_default-put.ensures.step in
     let step = stepped (setting_of c.put.new.self) by held held new Ask c.args.question.text.now (Refused (refusal_of r)) after_put refl c.in-Err-ask.ensures.step in
-    unless_memory c.tell_refusal-in-Err-ask.result r c.of-command-in-Err-ask.result.refusal (λ (report : Report). report.status ≡ 1) c.of-command-in-Err-ask.ensures c.tell_refusal-in-Err-ask.ensures.other
-    (λ other. inr (by, (c.in_ok-extensions.extensions, c.in_ok-extensions.ensures.alone, refl), question_refused ids loaded held loads puts (new, refusal_of r, other, step)))
+    let command = c.of-command-in-Err-ask.result in
+    let Q : Report → Type 0 = λ report. TellsBody by command.source.name.now command.source.text.now (refusal_of command.refusal) (string_bytes report.text) in
+    let R : Report → Type 0 = λ report. TellsUnexplained (titled_text c.args.policies) (titled_text c.args.entities) (titled_text c.args.question) (string_bytes report.text) in
+    unless_memory c.tell_refusal-in-Err-ask.result r command.refusal (λ (report : Report). report.status ≡ 1) Q R c.of-command-in-Err-ask.ensures.refusal c.tell_refusal-in-Err-ask.ensures.other c.tell_refusal-in-Err-ask.ensures.told
+    (λ report other told. inr (
+      by,
+      (c.in_ok-extensions.extensions, c.in_ok-extensions.ensures.alone, refl),
+      question_refused ids loaded held loads puts
+          (new, refusal_of r, other, step, body_told by command.source c.args.question command.refusal r (string_bytes report.text) c.of-command-in-Err-ask.ensures.source c.of-command-in-Err-ask.ensures.refusal told),
+    ))

@@ -15,5 +15,5 @@ loop-id-preserved c =
     let new = string_bytes c.tell_one.new.told in
     Adds-more (TellsOne name policies response) c.args.ids.now c.loop-id.id-index id (string_bytes c.args.told.now) old new
     (omega arith) c.id-item.is c.loop-id.invariant
-    (told_one c.policies-policies.result.now c.policies-policies.ensures.slots c.policy_sets_are_worlds.ensures.finds policies c.policies-policies.ensures.policies id
+    (told_one c.policies-policies.result.now c.policies-policies.ensures.slots c.len-bound.ensures.whole c.policy_sets_are_worlds.ensures.finds policies c.policies-policies.ensures.policies id
     name response old new c.get.result c.get.ensures.entry c.get.ensures.id c.in_ok-tell_one.ensures.none c.in_ok-tell_one.ensures.some)

@@ -1,11 +1,11 @@
 -- Its line has the place of the error.
-use Rattle.std.proofs.Common.{◌++◌, ap}
-use Rattle.cedar_authoring.specs.Telling.{line_of}
+use Rattle.std.proofs.Common.{Option, string_bytes, sym, subst}
+use Rattle.cedar_authoring.specs.Telling.{AreBelow, TellsOf}
+use Rattle.cedar_authoring.specs.declared.places.Position.{Position}
 use Rattle.cedar_authoring.proofs.faults.tell_fault.Goals as goal
 
 pub returns : goal.returns
 returns c =
-    let name = c.args.name.now in
-    let message = c.as_str.result.now in
-    let below = c.as_str-2.result.now in
-    (line_of name c.place_of-place.result message ++ below, (message, below, ap (λ place. line_of name place message ++ below) c.place_of-place.ensures), c.in_ok-tell.ensures)
+    let told = c.in_ok-tell.ensures (subst AreBelow (sym c.as_str-2.ensures.value) c.in_ok-below.ensures) in
+    let P : Option Position → Type 0 = λ place. TellsOf c.args.name.now place told.0 in
+    (told.0, subst P c.place_of-place.ensures told.1, told.2)

@@ -1,15 +1,21 @@
 -- One command more is answered (Ran).
-use Rattle.std.proofs.Common.{◌+◌, ◌≤◌, Bool, List, length, take, refl, sym, subst, ◌∙◌, arith}
+use Rattle.std.proofs.Common.{◌+◌, ◌≤◌, Bool, List, length, string_bytes, take, refl, sym, subst, ◌∙◌, arith}
 use Rattle.std.proofs.lemmas.List.{take_all}
 use Rattle.cedar_world.specs.Setting.{Setting}
 use Rattle.cedar_session.specs.Sessions.{setting_of, world_of}
 use Rattle.cedar_authoring.specs.declared.scripts.script.Step.{Step}
 use Rattle.cedar_authoring.specs.Scripts.{AreAnswered, IsAnswered}
+use Rattle.cedar_authoring.specs.Telling.{AreBelow}
+use Rattle.cedar_authoring.proofs.Below.{below_more, both_added, nothing_added, nothing_below}
 use Rattle.cedar_authoring.proofs.Ran.{nothing_answered, AreAnswered-more}
 use Rattle.cedar_authoring.proofs.running.run_steps.Goals as goal
 
 pub loop-step-init : goal.loop-step-init
-loop-step-init c = record { answered = nothing_answered (setting_of c.args.session.now) (world_of c.args.session.now); setting = refl }
+loop-step-init c = record {
+  answered = nothing_answered (setting_of c.args.session.now) (world_of c.args.session.now);
+  setting = refl;
+  told = nothing_added AreBelow (string_bytes c.args.wrong.now) nothing_below;
+}
 
 pub loop-step-preserved : goal.loop-step-preserved
 loop-step-preserved c =
@@ -24,6 +30,7 @@ loop-step-preserved c =
       answered = subst Q (sym c.both-fine.ensures) (AreAnswered-more by old mid new c.args.steps.now c.loop-step.step-index step c.loop-step.fine c.in_ok-expected.expected (omega arith) c.step-item.is
           c.loop-step.invariant.answered (subst P c.loop-step.invariant.setting c.in_ok-expected.ensures.answered));
       setting = c.in_ok-expected.ensures.setting ∙ c.loop-step.invariant.setting;
+      told = both_added AreBelow below_more (string_bytes c.args.wrong.now) (string_bytes c.loop-step.wrong) (string_bytes c.run_step.new.wrong) c.loop-step.invariant.told c.in_ok-expected.ensures.told;
     }
 
 pub returns-clause-answered : goal.returns-clause-answered

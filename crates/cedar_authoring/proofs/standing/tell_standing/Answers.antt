@@ -1,8 +1,8 @@
 -- Its line begins with the id, and ends with how it stands.
-use Rattle.std.proofs.Common.{◌≡◌, ◌++◌, ◌∷◌, [], ap, sym, ◌∙◌, append_assoc, string_bytes}
+use Rattle.std.proofs.Common.{◌≡◌, ◌++◌, ◌∷◌, [], ap, sym, subst, ◌∙◌, append_assoc, string_bytes}
 use Rattle.cedar_policies.specs.Policies.{policy_id}
 use Rattle.cedar_authoring.specs.Standing.{standing_words, TellsStanding}
-use Rattle.cedar_authoring.specs.Telling.{line_of}
+use Rattle.cedar_authoring.specs.Telling.{line_of, AreBelow, IsLine}
 use Rattle.cedar_authoring.proofs.Told.{told_on_ok}
 use Rattle.cedar_authoring.proofs.standing.tell_standing.Goals as goal
 
@@ -21,5 +21,7 @@ returns c = λ response words_are.
     sym (append_assoc id (32 ∷ []) (what ++ words)) ∙ (sym (append_assoc (id ++ 32 ∷ []) what words)
     ∙ (ap (λ i. ((i ++ 32 ∷ []) ++ what) ++ words) named ∙ ap (λ w. ((own ++ 32 ∷ []) ++ what) ++ w) (c.words.ensures ∙ words_are))) in
     let is : message ≡ ((own ++ 32 ∷ []) ++ what) ++ standing_words response own = c.as_str-3.ensures.value ∙ (c.in_ok-line.ensures.ok ∙ joined) in
-    told_on_ok c.tell.result (TellsStanding name response own) (string_bytes c.args.told.now) (string_bytes c.tell.new.told) (line_of name place message ++ below)
-    (place, what, below, ap (λ m. line_of name place m ++ below) is) c.tell.ensures
+    let line : IsLine what = subst IsLine (sym c.as_str-2.ensures.value) c.in_ok-what.ensures in
+    let are_below : AreBelow below = subst AreBelow (sym c.as_str-4.ensures.value) c.in_ok-below.ensures in
+    told_on_ok c.tell_line.result (TellsStanding name response own) (string_bytes c.args.told.now) (string_bytes c.tell_line.new.told) (line_of name place message ++ below)
+    (place, what, below, line, are_below, ap (λ m. line_of name place m ++ below) is) c.tell_line.ensures

@@ -3,4 +3,4 @@ use Rattle.cedar_world.proofs.Later.{later_answers_stand as law}
 use Rattle.cedar_world.proofs.telling.later_answers_stand.Goals as goal
 
 pub returns : goal.returns
-returns c = law (record { facts = c.worlds_have_facts.ensures; force = c.answers_read_what_is_in_force.ensures; made = c.answers_are_made.ensures; fair = c.rules_are_fair.ensures })
+returns c = law

@@ -1,0 +1,12 @@
+-- Its line is all that is told (Below).
+use Rattle.std.proofs.Common.{sym, subst, string_bytes}
+use Rattle.cedar_language.specs.Uid.{Text}
+use Rattle.cedar_authoring.specs.Telling.{TellsOf}
+use Rattle.cedar_authoring.proofs.Below.{from_nothing, nothing_below}
+use Rattle.cedar_authoring.proofs.checking.refuse.Goals as goal
+
+pub returns-clause-told : goal.returns-clause-told
+returns-clause-told c =
+    let Tells : Text → Type 0 = TellsOf c.args.name.now c.args.place in
+    let told = from_nothing Tells (string_bytes c.new-told.result) (string_bytes c.tell.new.told) c.new-told.ensures.bytes (c.in_ok-tell.ensures nothing_below) in
+    subst Tells (sym c.refused.ensures.text) told

@@ -1,0 +1,6 @@
+use Rattle.std.proofs.Common.{string_bytes}
+use Rattle.cedar_authoring.specs.Telling.{Adds, AreBelow}
+use Rattle.cedar_authoring.proofs.wrong.push_faults.Given as goal
+
+abbrev pub invariant-loop-line : goal.invariant-loop-line
+invariant-loop-line l = Adds AreBelow (string_bytes l.fn.told) (string_bytes l.told)

@@ -1,0 +1,13 @@
+-- Two lines (Below).
+use Rattle.std.proofs.Common.{string_bytes}
+use Rattle.std.proofs.lemmas.Result.{on_ok_weaker}
+use Rattle.cedar_authoring.specs.Telling.{AreBelow}
+use Rattle.cedar_authoring.proofs.Below.{below_more, both_added}
+use Rattle.cedar_authoring.proofs.wrong.tell_answer.Goals as goal
+
+pub returns : goal.returns
+returns c =
+    let start = string_bytes c.args.told.now in
+    let expected = string_bytes c.push_indented.new.told in
+    let new = string_bytes c.push_indented-2.new.told in
+    on_ok_weaker c.push_indented-2.result (λ answered. both_added AreBelow below_more start expected new c.in_ok-push_indented.ensures answered) c.push_indented-2.ensures

@@ -1,0 +1,17 @@
+pub mod Spelling
+pub mod KeyLaws
+pub mod KeyOrder
+pub mod Longs
+pub mod Years
+pub mod Addresses
+pub mod Slashes
+pub mod DecimalTexts
+pub mod DurationTexts
+pub mod RangeKeys
+pub mod RangeTexts
+pub mod RangeKeysRead
+pub mod ProperRanges
+pub mod Printing
+pub mod Reckoning
+pub mod Dates
+pub mod Nesting

@@ -1,0 +1,10 @@
+pub mod Digits
+pub mod Longs
+pub mod Decimals
+pub mod Durations
+pub mod Calendar
+pub mod Instants
+pub mod Keys
+pub mod Ranges
+pub mod TextRelations
+pub mod Laws
