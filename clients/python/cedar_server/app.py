@@ -52,7 +52,10 @@ class Service:
 
     def app(self) -> Starlette:
         handlers = {HTTPException: self._no_path}
-        return Starlette(routes=self._routes(), exception_handlers=handlers, lifespan=self._lives)  # type: ignore[arg-type]
+        app = Starlette(routes=self._routes(), exception_handlers=handlers, lifespan=self._lives)  # type: ignore[arg-type]
+        # (another path is another path)
+        app.router.redirect_slashes = False
+        return app
 
     def _routes(self) -> List[Route]:
         questions = [
@@ -235,7 +238,7 @@ class Service:
         why = self._point.why_not()
         if why is not None:
             raise Fault(503, "NotReady", why)
-        return _json({"status": "ready", "position": self._point.position, "age": round(monotonic() - self._point.seen(), 3)})
+        return _json({"status": "ready", "position": self._point.position, "age": round(max(monotonic() - self._point.seen(), 0.0), 3)})
 
     async def _counts(self, _: Request) -> Response:
         return Response(self._metrics.text(monotonic()), media_type="text/plain; version=0.0.4")

@@ -56,8 +56,12 @@ def read(body: bytes) -> object:
         raise Fault(400, "NotUtf8", f"byte {why.start} isn't UTF-8") from why
     except json.JSONDecodeError as why:
         raise Fault(400, "NoJson", f"{why.msg} at line {why.lineno} column {why.colno}", line=why.lineno, column=why.colno) from why
-    except RecursionError as why:
-        raise Fault(400, "TooDeep", "the body nests too deeply") from why
+    except RecursionError:
+        raise _too_deep() from None
+
+
+def _too_deep() -> Fault:
+    return Fault(400, "TooDeep", "the body nests too deeply")
 
 
 def below(at: str, key: object) -> str:
@@ -124,16 +128,17 @@ def uid(value: object, at: str) -> Entity:
 
 def value_of(value: object, at: str, may_wait: bool = False) -> Value:
     """A value of the language. What isn't known yet, `{"__unknown": NAME}`, stands in the contexts of questions that may be open."""
-    kind = type(value)
-    if kind is str:
-        return text(value, at)
-    if kind is bool or kind is int:
-        return value  # type: ignore[return-value]
-    if kind is dict:
-        found = record(value, at)
-        return _escaped(found, at, may_wait) if not _ESCAPES.isdisjoint(found) else record_of(found, at, may_wait)
-    if kind is list:
-        return items(value, at, lambda it, where: value_of(it, where, may_wait))
+    try:
+        if isinstance(value, str):
+            return text(value, at)
+        if isinstance(value, (bool, int)):
+            return value
+        if isinstance(value, dict):
+            return record_of(value, at, may_wait) if _ESCAPES.isdisjoint(value) else _escaped(value, at, may_wait)
+        if isinstance(value, list):
+            return [value_of(it, f"{at}/{index}", may_wait) for index, it in enumerate(value)]
+    except RecursionError:
+        raise _too_deep() from None
     raise no("a value of the language", value, at)
 
 

@@ -20,6 +20,8 @@ from .tokens import Doors
 _LOGGER = logging.getLogger("gunicorn.error")
 # A reload begins as many processes again before it ends the old ones, and some may be slow to end.
 _ROWS = 4
+# So long a connection without a request is kept where the process ends.
+_GRACE = 1.0
 _NOTHING: List[folder.Edit] = []
 
 
@@ -41,10 +43,12 @@ class Settings:
 
 
 class Protocol(HttpToolsProtocol):  # type: ignore[misc]
-    """HTTP by a parser in C, which closes a connection whose head hasn't come in time."""
+    """HTTP by a parser in C. It closes a connection whose head hasn't come in time; where the process ends, the first request of a
+    connection that was just taken is still answered."""
 
     seconds = 30.0
     _head: Optional[asyncio.TimerHandle] = None
+    _is_last = False
 
     def connection_made(self, transport: Any) -> None:
         super().connection_made(transport)
@@ -61,10 +65,26 @@ class Protocol(HttpToolsProtocol):  # type: ignore[misc]
         self._wait_no_more()
         super().connection_lost(exc)
 
+    def on_headers_complete(self) -> None:
+        super().on_headers_complete()
+        if self._is_last and self.cycle is not None:
+            self.cycle.keep_alive = False
+
     def on_response_complete(self) -> None:
         # (from here on uvicorn waits, until more comes)
         self._wait_no_more()
         super().on_response_complete()
+
+    def shutdown(self) -> None:
+        if self.cycle is not None:
+            super().shutdown()
+        else:
+            self._is_last = True
+            self.loop.call_later(_GRACE, self._close_unused)
+
+    def _close_unused(self) -> None:
+        if self.cycle is None:
+            self.timeout_keep_alive_handler()
 
     def _wait(self) -> None:
         self._head = self.loop.call_later(self.seconds, self.timeout_keep_alive_handler)
