@@ -5,6 +5,7 @@ import contextlib
 import http.client
 import json
 import os
+import random
 import shutil
 import signal
 import socket
@@ -22,9 +23,14 @@ ENTITIES = [{"uid": ALICE, "attrs": {"level": 3}, "parents": [{"type": "Group", 
 ANY = "permit(principal, action, resource);"
 
 
-def free_port():
-    with socket.create_server(("127.0.0.1", 0)) as it:
-        return it.getsockname()[1]
+def free_port(count=1):
+    """The first of so many ports that are free, below those that a system gives to clients."""
+    while True:
+        port = random.randrange(15_000, 30_000)
+        with contextlib.suppress(OSError), contextlib.ExitStack() as taken:
+            for it in range(count):
+                taken.enter_context(socket.create_server(("127.0.0.1", port + it)))
+            return port
 
 
 def question(principal=ALICE, **context):
