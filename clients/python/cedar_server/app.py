@@ -21,7 +21,7 @@ from .faults import Fault, fault_of
 from .metrics import Metrics, Row
 from .points import Point
 from .questions import Question, evaluation_of, evaluations_of, question_of
-from .requests import age_of, body_of, position_of, query_of
+from .requests import age_of, body_of, header, position_of, query_of
 from .tokens import Doors
 
 Endpoint = Callable[[Request], Awaitable[Response]]
@@ -31,7 +31,7 @@ _ENCODER = json.JSONEncoder(ensure_ascii=False, separators=(",", ":"))
 _QUESTION, _EDIT = frozenset(("position", "age")), frozenset(("expected",))
 _NOTHING: FrozenSet[str] = frozenset()
 _LINK, _SLOTS = frozenset(("template", "id")), frozenset(("principal", "resource"))
-_REQUEST, _KEY, _LONGEST = "x-request-id", "idempotency-key", 200
+_TOKEN, _REQUEST, _KEY, _LONGEST = b"authorization", b"x-request-id", b"idempotency-key", 200
 
 
 @dataclass(frozen=True)
@@ -121,7 +121,7 @@ class Service:
         self._row.requested(call, response.status_code, seconds)
         given = _given(request)
         if given is not None:
-            response.headers[_REQUEST] = given
+            response.headers["x-request-id"] = given
         return response
 
     async def _no_path(self, request: Request, why: HTTPException) -> Response:
@@ -131,13 +131,13 @@ class Service:
         return self._told(request, "other", response, 0.0)
 
     async def _json(self, request: Request) -> object:
-        return reading.read(await body_of(request, self._limits.body, self._limits.seconds))
+        return reading.read(await body_of(request, self._limits.body))
 
     # ---- questions
 
     async def _asked(self, request: Request) -> object:
         """The body of a question, once this process has come to where it is asked."""
-        self._doors.let_ask(request.headers.get("authorization"))
+        self._doors.let_ask(header(request, _TOKEN))
         query = query_of(request, _QUESTION)
         position, age = position_of(query, "position"), age_of(query)
         body = await self._json(request)
@@ -185,11 +185,11 @@ class Service:
         return await self._point.edit(verb, body, _key(request), expected)
 
     def _let_edit(self, request: Request) -> None:
-        self._doors.let_edit(request.headers.get("authorization"))
+        self._doors.let_edit(header(request, _TOKEN))
 
     async def _load(self, request: Request) -> Response:
         self._let_edit(request)
-        body = await body_of(request, self._limits.body, self._limits.seconds)
+        body = await body_of(request, self._limits.body)
         try:
             policies = body.decode()
         except UnicodeDecodeError as why:
@@ -257,13 +257,13 @@ def _refused(why: Fault) -> Response:
 
 def _given(request: Request) -> Optional[str]:
     """The name that the client gave its request."""
-    given = request.headers.get(_REQUEST)
+    given = header(request, _REQUEST)
     return given if given and len(given) <= _LONGEST else None
 
 
 def _key(request: Request) -> Optional[str]:
     """The key by which an edit is done once, however often it is given."""
-    key = request.headers.get(_KEY)
+    key = header(request, _KEY)
     if key is not None and not (key.isascii() and key.isprintable() and 0 < len(key) <= _LONGEST):
         raise Fault(400, "NoKey", f"a key is 1 to {_LONGEST} characters of ASCII", "Idempotency-Key:")
     return key

@@ -115,11 +115,15 @@ def _evaluation(found: Dict[str, object], places: Dict[str, str]) -> Question:
 def _of_authzen(value: object, at: str, part: str, context: Dict[str, Value]) -> Entity:
     """A part of a question. What properties it brings stand in the context, under the part's name: attributes are those that are put."""
     found = fields(value, at, _NAMED if part == "action" else _TYPED, _PROPERTIES)
-    properties = record_of(found.get("properties", {}), f"{at}/properties")
-    if properties and part in context:
-        raise Fault(400, "DoubledKey", f'properties stand in the context as "{part}", which it has already', f"{at}/properties")
-    if properties:
-        context[part] = properties
+    if "properties" in found:
+        _add(record_of(found["properties"], f"{at}/properties"), f"{at}/properties", part, context)
     if part == "action":
         return named("Action", text(found["name"], f"{at}/name"), f"{at}/name")
     return named(text(found["type"], f"{at}/type"), text(found["id"], f"{at}/id"), f"{at}/type")
+
+
+def _add(properties: Dict[str, Value], at: str, part: str, context: Dict[str, Value]) -> None:
+    if properties and part in context:
+        raise Fault(400, "DoubledKey", f'properties stand in the context as "{part}", which it has already', at)
+    if properties:
+        context[part] = properties

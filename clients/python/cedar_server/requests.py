@@ -1,6 +1,5 @@
-"""What a request brings: its body, up to a limit and within a time, and its query."""
+"""What a request brings: its headers, its body, up to a limit, and its query."""
 
-import asyncio
 import re
 from typing import AbstractSet, Dict, Optional
 from urllib.parse import parse_qsl
@@ -13,26 +12,16 @@ _POSITION = re.compile(r"0|[1-9][0-9]{0,17}", re.ASCII)
 _SECONDS = re.compile(r"[0-9]{1,9}(\.[0-9]{1,9})?", re.ASCII)
 
 
-async def body_of(request: Request, limit: int, seconds: float) -> bytes:
-    """The whole body. It raises Fault where that is longer, or takes longer to come, and ClientDisconnect where it ends before its end."""
-    told = request.headers.get("content-length")
-    if told is not None and told.isdigit() and int(told) > limit:
-        raise _too_long(limit)
-    task = asyncio.current_task()
-    assert task is not None
-    loop = asyncio.get_running_loop()
-    timer = loop.call_later(seconds, task.cancel)
-    try:
-        return await _whole(request, limit)
-    except asyncio.CancelledError:
-        if loop.time() < timer.when():
-            raise
-        raise Fault(408, "TooSlow", f"the body hasn't come in {seconds:g} seconds") from None
-    finally:
-        timer.cancel()
+def header(request: Request, name: bytes) -> Optional[str]:
+    """The header of a name, in small letters; the first, where there are several."""
+    for key, value in request.scope["headers"]:
+        if key == name:
+            return str(value, "latin-1")
+    return None
 
 
-async def _whole(request: Request, limit: int) -> bytes:
+async def body_of(request: Request, limit: int) -> bytes:
+    """The whole body. It raises Fault where that is longer, and ClientDisconnect where it ends before its end."""
     body = b""
     while True:
         message = await request.receive()

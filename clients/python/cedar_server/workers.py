@@ -1,6 +1,7 @@
 """The processes of a service: a supervisor that begins so many, and anew what ends or falls silent, each with a session of its own."""
 
 import asyncio
+import json
 import logging
 import resource
 from dataclasses import dataclass, field
@@ -13,6 +14,7 @@ from uvicorn.workers import UvicornWorker  # type: ignore[import]
 from . import folder
 from .app import Limits, Service
 from .decisions import Decisions
+from .faults import Fault
 from .metrics import Metrics
 from .points import CopyPoint, FolderPoint, Point
 from .tokens import Doors
@@ -43,11 +45,11 @@ class Settings:
 
 
 class Protocol(HttpToolsProtocol):  # type: ignore[misc]
-    """HTTP by a parser in C. It closes a connection whose head hasn't come in time; where the process ends, the first request of a
+    """HTTP by a parser in C. It closes a connection on which no whole request comes in time; where the process ends, the first request of a
     connection that was just taken is still answered."""
 
     seconds = 30.0
-    _head: Optional[asyncio.TimerHandle] = None
+    _whole: Optional[asyncio.TimerHandle] = None
     _is_last = False
 
     def connection_made(self, transport: Any) -> None:
@@ -56,9 +58,9 @@ class Protocol(HttpToolsProtocol):  # type: ignore[misc]
 
     def data_received(self, data: bytes) -> None:
         super().data_received(data)
-        if self.cycle is not None and not self.cycle.response_complete:
+        if self.cycle is not None and not self.cycle.response_complete and not self.cycle.more_body:
             self._wait_no_more()
-        elif self._head is None:
+        elif self._whole is None:
             self._wait()
 
     def connection_lost(self, exc: Any) -> None:
@@ -87,12 +89,24 @@ class Protocol(HttpToolsProtocol):  # type: ignore[misc]
             self.timeout_keep_alive_handler()
 
     def _wait(self) -> None:
-        self._head = self.loop.call_later(self.seconds, self.timeout_keep_alive_handler)
+        self._whole = self.loop.call_later(self.seconds, self._is_late)
 
     def _wait_no_more(self) -> None:
-        head, self._head = self._head, None
-        if head is not None:
-            head.cancel()
+        waited, self._whole = self._whole, None
+        if waited is not None:
+            waited.cancel()
+
+    def _is_late(self) -> None:
+        if self.cycle is not None and not self.cycle.response_started and not self.transport.is_closing():
+            self.transport.write(_late(self.seconds))
+        self.timeout_keep_alive_handler()
+
+
+def _late(seconds: float) -> bytes:
+    """What is answered where a body doesn't come."""
+    said = json.dumps(Fault(408, "TooSlow", f"the body hasn't come in {seconds:g} seconds").body()).encode()
+    head = "HTTP/1.1 408 Request Timeout\r\ncontent-type: application/json\r\nconnection: close\r\n"
+    return head.encode() + b"content-length: %d\r\n\r\n%s" % (len(said), said)
 
 
 class Worker(UvicornWorker):  # type: ignore[misc]
