@@ -144,7 +144,7 @@ class Processes(BaseApplication):  # type: ignore[misc]
     def _point(self) -> Point:
         settings = self._settings
         if settings.database is None:
-            return FolderPoint(self._edits)
+            return FolderPoint(self._edits, self._worker.notify)
         return CopyPoint(settings.database, settings.log, settings.wait, self._worker.notify)
 
     def _before(self, _: Any, worker: Any) -> None:
