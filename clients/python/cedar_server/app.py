@@ -6,7 +6,8 @@ import logging
 from contextlib import asynccontextmanager
 from dataclasses import dataclass
 from time import monotonic, perf_counter
-from typing import AsyncIterator, Awaitable, Callable, Dict, FrozenSet, List, Optional, Tuple
+from types import MappingProxyType
+from typing import AsyncIterator, Awaitable, Callable, Dict, FrozenSet, List, Mapping, Optional, Tuple
 
 from cedar_session import Answer, CedarError, Decision, values
 from starlette.applications import Starlette
@@ -23,6 +24,7 @@ from .points import Point
 from .questions import Question, evaluation_of, evaluations_of, question_of
 from .requests import age_of, body_of, header, position_of, query_of
 from .tokens import Doors
+from .whole import answer_of
 
 Endpoint = Callable[[Request], Awaitable[Response]]
 
@@ -30,6 +32,7 @@ _LOGGER = logging.getLogger("gunicorn.error")
 _ENCODER = json.JSONEncoder(ensure_ascii=False, separators=(",", ":"))
 _QUESTION, _EDIT = frozenset(("position", "age")), frozenset(("expected",))
 _NOTHING: FrozenSet[str] = frozenset()
+_NO_MORE: Mapping[str, object] = MappingProxyType({})
 _LINK, _SLOTS = frozenset(("template", "id")), frozenset(("principal", "resource"))
 _TOKEN, _REQUEST, _KEY, _LONGEST = b"authorization", b"x-request-id", b"idempotency-key", 200
 
@@ -62,6 +65,7 @@ class Service:
             ("/access/v1/evaluation", "evaluation", self._evaluation),
             ("/access/v1/evaluations", "evaluations", self._evaluations),
             ("/v1/ask", "ask", self._ask),
+            ("/v1/is_authorized", "whole", self._whole),
         ]
         edits = [
             ("/v1/policies", "POST", self._load),
@@ -171,6 +175,15 @@ class Service:
                 break
         return _json({"evaluations": found})
 
+    async def _whole(self, request: Request) -> Response:
+        self._doors.let_ask(header(request, _TOKEN))
+        query_of(request, _NOTHING)
+        try:
+            answer = answer_of(await self._json(request))
+        except Fault as why:
+            return _refused(why, {"type": "failure", "errors": [{"message": f"{why.at} {why.text}".lstrip()}], "warnings": []})
+        return _json(answer)
+
     def _evaluated(self, request: Request, question: Question) -> Dict[str, object]:
         answer = self._answer(request, question)
         why = {"reasons": answer.must, "erring": answer.erring, "position": self._point.position}
@@ -248,8 +261,8 @@ def _json(said: object, status: int = 200) -> Response:
     return Response(_ENCODER.encode(said), status, media_type="application/json")
 
 
-def _refused(why: Fault) -> Response:
-    response = _json(why.body(), why.status)
+def _refused(why: Fault, more: Mapping[str, object] = _NO_MORE) -> Response:
+    response = _json({**more, **why.body()}, why.status)
     if why.status == 401:
         response.headers["www-authenticate"] = "Bearer"
     return response

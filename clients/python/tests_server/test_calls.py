@@ -15,6 +15,7 @@ EVALUATION, EVALUATIONS = "/access/v1/evaluation", "/access/v1/evaluations"
 REASONS = {"reasons": ["policy0"], "erring": {}, "position": 0}
 NONE = {"reasons": [], "erring": {}, "position": 0}
 TOKEN = {"token": ADMIN}
+WHOLE = {"principal": ALICE, "action": VIEW, "resource": PHOTO, "policies": {"staticPolicies": ANY}}
 
 # A method, a path, a body and what more is sent; the status, the kind and the place of the fault.
 FAULTS = (
@@ -134,7 +135,7 @@ class Doors(OverFolder):
     more = ("--tokens", "ROOM/tokens")
 
     def test_none_is_let_in_without_a_token(self):
-        calls = (("/v1/ask", question(hour=9)), (EVALUATION, evaluation(hour=9)), (EVALUATIONS, evaluation(hour=9)))
+        calls = (("/v1/ask", question(hour=9)), (EVALUATION, evaluation(hour=9)), (EVALUATIONS, evaluation(hour=9)), ("/v1/is_authorized", WHOLE))
         for path, body in calls:
             for token in (None, "x", ASKER[:-1], ASKER + "x", ADMIN.upper()):
                 self.assertEqual(self.caller(token).post(path, body).fault, (401, "Unauthorized", "Authorization:"), (path, token))
