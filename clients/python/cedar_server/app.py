@@ -9,7 +9,7 @@ from time import monotonic, perf_counter
 from types import MappingProxyType
 from typing import AsyncIterator, Awaitable, Callable, Dict, FrozenSet, List, Mapping, Optional, Tuple
 
-from cedar_session import Answer, CedarError, Decision, values
+from cedar_session import Answer, CedarError, Decision, Refused, values
 from starlette.applications import Starlette
 from starlette.exceptions import HTTPException
 from starlette.requests import ClientDisconnect, Request
@@ -20,6 +20,7 @@ from . import reading
 from .decisions import Decisions
 from .faults import Fault, fault_of
 from .metrics import Metrics, Row
+from .places import with_place
 from .points import Point
 from .questions import Question, evaluation_of, evaluations_of, question_of
 from .requests import age_of, body_of, header, position_of, query_of
@@ -207,7 +208,10 @@ class Service:
             policies = body.decode()
         except UnicodeDecodeError as why:
             raise Fault(400, "NotUtf8", f"byte {why.start} isn't UTF-8") from why
-        ids, position = await self._edited(request, "load", policies)
+        try:
+            ids, position = await self._edited(request, "load", policies)
+        except Refused as why:
+            raise with_place(fault_of(why), policies) from why
         return _json({"ids": ids, "position": position})
 
     async def _link(self, request: Request) -> Response:

@@ -7,6 +7,7 @@ from cedar_session import CedarError, Commands, Decision, Entity, Refused
 from cedar_session.values import Value
 
 from .faults import Fault, fault_of
+from .places import with_place
 from .reading import below, entities, fields, items, no, record, record_of, text, uid
 
 T = TypeVar("T")
@@ -76,8 +77,7 @@ def _loaded(session: Commands, value: object) -> _Ids:
 def _load_all(session: Commands, given: object, at: str, ids: _Ids) -> None:
     """Static policies: one text of all, a list of them, or each under its id."""
     if isinstance(given, str):
-        loaded = _do(at, lambda: session.load(text(given, at)))
-        for name in loaded:
+        for name in _of_text(session, text(given, at), at):
             _want(session.remove_template, name, at, "a static policy")
             ids.add(name, name, at)
         return
@@ -91,11 +91,18 @@ def _load_all(session: Commands, given: object, at: str, ids: _Ids) -> None:
 
 
 def _one(session: Commands, policy: str, at: str, remove_other: Callable[[str], None], kind: str) -> str:
-    loaded = _do(at, lambda: session.load(policy))
+    loaded = _of_text(session, policy, at)
     if len(loaded) != 1:
         raise Fault(400, "NotOne", f"one policy is wanted, and these are {len(loaded)}", at)
     _want(remove_other, loaded[0], at, kind)
     return loaded[0]
+
+
+def _of_text(session: Commands, policies: str, at: str) -> List[str]:
+    try:
+        return session.load(policies)
+    except CedarError as why:
+        raise with_place(fault_of(why), policies, at) from why
 
 
 def _want(remove_other: Callable[[str], None], name: str, at: str, kind: str) -> None:

@@ -169,7 +169,8 @@ class Edits(WithLog):
     def test_edits_that_are_refused(self):
         caller = self.caller(self.service())
         reply = caller.post("/v1/policies", "permit(")
-        self.assertEqual((reply.status, reply.said["error"]["word"]), (422, "Text"))
+        error = reply.said["error"]
+        self.assertEqual((reply.status, error["word"], error["line"], error["column"]), (422, "Text", 1, 1))
         self.assertEqual(caller.post("/v1/policies", ANY).said, {"ids": ["policy0"], "position": 2})
         self.assertEqual(caller.post("/v1/policies?expected=1", ANY).fault, (409, "Moved", ""))
         self.assertEqual(caller.post("/v1/policies?expected=1", ANY).said["error"]["position"], 2)

@@ -5,6 +5,7 @@ import unittest
 
 from cedar_server import reading
 from cedar_server.faults import Fault
+from cedar_server.places import place_of
 from cedar_server.whole import answer_of
 from tests_server.serving import ALICE, ANY, BOB, PHOTO, VIEW, Service
 
@@ -87,6 +88,19 @@ class Calls(unittest.TestCase):
                 answer_of(reading.read(json.dumps(given).encode()))
             self.assertEqual((raised.exception.kind, raised.exception.at), (kind, at), given)
 
+    def test_places_of_texts(self):
+        """Of a text that is refused the first policy is told that no session takes."""
+        cases = (
+            ("permit(", (1, 1)),
+            (f"{ANY}\n\n  permit(principal);\n{ANY}", (3, 3)),
+            (f'@id("a;b")\n{ANY} // ; permit(\n{ANY} forbid(principal', (3, 38)),
+            (f"{ANY}\n", None),
+            ("", None),
+            (f"{ANY} // the end", None),
+        )
+        for policies, wanted in cases:
+            self.assertEqual(place_of(policies), wanted, policies)
+
     def test_over_http(self):
         with Service() as service:
             caller = service.caller()
@@ -95,7 +109,7 @@ class Calls(unittest.TestCase):
             self.assertEqual((reply.status, reply.said["response"]["diagnostics"]["reason"]), (200, ["it"]))
             reply = caller.post("/v1/is_authorized", call({"staticPolicies": "permit("}))
             self.assertEqual(reply.fault, (422, "Refused", "/policies/staticPolicies"))
-            self.assertEqual((reply.said["type"], reply.said["errors"]), ("failure", [{"message": "/policies/staticPolicies refused Text"}]))
+            self.assertEqual((reply.said["type"], reply.said["errors"]), ("failure", [{"message": "/policies/staticPolicies refused Text: the policy at line 1 column 1"}]))
             # Nothing of it stays.
             self.assertEqual(caller.ask(BOB, hour=9).said["decision"], "deny")
 
