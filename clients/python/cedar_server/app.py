@@ -20,6 +20,7 @@ from . import reading
 from .decisions import Decisions
 from .faults import Fault, fault_of
 from .metrics import Metrics, Row
+from .page import Page
 from .places import with_place
 from .points import Point
 from .questions import Question, evaluation_of, evaluations_of, question_of
@@ -47,12 +48,20 @@ class Limits:
     age: Optional[float] = None
 
 
+@dataclass(frozen=True)
+class More:
+    """What a service has where it is asked for."""
+
+    decisions: Optional[Decisions] = None
+    page: Optional[Page] = None
+
+
 class Service:
     """The calls, over what answers in this process."""
 
-    def __init__(self, point: Point, doors: Doors, limits: Limits, metrics: Metrics, row: Row, decisions: Optional[Decisions]):
+    def __init__(self, point: Point, doors: Doors, limits: Limits, metrics: Metrics, row: Row, more: More):
         self._point, self._doors, self._limits = point, doors, limits
-        self._metrics, self._row, self._decisions = metrics, row, decisions
+        self._metrics, self._row, self._decisions, self._page = metrics, row, more.decisions, more.page
 
     def app(self) -> Starlette:
         handlers = {HTTPException: self._no_path}
@@ -79,6 +88,8 @@ class Service:
             ("/v1/entities/remove", "POST", self._entities("remove")),
         ]
         shown = [("/healthz", "other", self._health), ("/readyz", "other", self._ready), ("/metrics", "other", self._counts), ("/v1/held", "held", self._held)]
+        if self._page is not None:
+            shown.append(("/", "other", self._page.show))
         return [
             *(Route(path, self._call(call, do), methods=["POST"]) for path, call, do in questions),
             *(Route(path, self._call("edit", do), methods=[method]) for path, method, do in edits),
