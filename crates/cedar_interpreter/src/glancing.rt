@@ -295,8 +295,7 @@ impl<'s, 'e, 'f, F> Evaluator<'s, 'e, 'f, F> {
     {
         let first = self.glance_operand(left, depth)?;
         let second = self.glance_operand(right, depth)?;
-        let told = long_of_two(op, first, second)?;
-        Some(told)
+        long_of_two(op, first, second)
     }
 
     // What an expression without parts is.

@@ -3,7 +3,7 @@
 use Rattle.std.proofs.Common.{◌≡◌, ◌+◌, ◌≤◌, ◌∙◌, ap, sym, arith}
 use Rattle.std.specs.Rc.{rc_str_bytes}
 use Rattle.cedar_grammar.specs.Build.{unary}
-use Rattle.cedar_language.specs.Tree.{Boolean, Long, GetAttr, Tree, Var}
+use Rattle.cedar_language.specs.Tree.{Boolean, GetAttr, Tree, Var}
 use Rattle.cedar_language.specs.Value.{Plain}
 use Rattle.cedar_literals.specs.Operators.{binary_operator_of}
 use Rattle.cedar_literals.specs.Variables.{variable_of}
@@ -11,7 +11,7 @@ use Rattle.cedar_trees.specs.Bare.{bare, bare_kind}
 use Rattle.cedar_trees.proofs.Bares.{bare_is, bare-Var}
 use Rattle.cedar_interpreter.specs.Forms.{unary_operator}
 use Rattle.cedar_interpreter.specs.Glancing.{value_lent}
-use Rattle.cedar_interpreter.proofs.Glanced.{attribute_tells, one_tells, two_tells, tells_within}
+use Rattle.cedar_interpreter.proofs.Glanced.{attribute_tells, one_tells, two_tells, long_tells, tells_within}
 use Rattle.cedar_interpreter.proofs.evaluator.Evaluator.+glance.Goals as goal
 
 pub glance_attribute-returns-in-Var : goal.glance_attribute-returns-in-Var
@@ -38,5 +38,5 @@ glance_two-returns g t c =
 
 pub glance_long-returns : goal.glance_long-returns
 glance_long-returns g t c =
-    two_tells c.args.self.now c.args.depth (binary_operator_of c.args.op) (bare c.args.left.now) (bare c.args.right.now) (value_lent c.in_ok-first.first) (value_lent c.in_ok-second.second) (Plain (Long c.in_ok-told.told))
-    c.in_ok-first.ensures c.in_ok-second.ensures (λ facts has. c.in_ok-told.ensures facts)
+    long_tells c.args.self.now c.args.depth (binary_operator_of c.args.op) (bare c.args.left.now) (bare c.args.right.now) (value_lent c.in_ok-first.first) (value_lent c.in_ok-second.second) c.long_of_two.result
+    c.in_ok-first.ensures c.in_ok-second.ensures c.long_of_two.ensures
