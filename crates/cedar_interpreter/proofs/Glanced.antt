@@ -245,8 +245,8 @@ module _ {F : Type 0} (ev : Evaluator F) where
       within = omega (arith, h.within, g.within);
     }
 
-    pub long_tells : (op : Operator) (s t : Tree) (u v : Value) (found : Option ℤ) → Tells ev d s u → Tells ev d t v → ((facts : Facts) → IfSome found (λ n. applied facts op (two u v) ≡ Gives (Plain (Long n))))
-        → IfSome found (λ n. Tells ev (d + 1) (binary op s t) (Plain (Long n)))
+    pub long_tells : (op : Operator) (s t : Tree) (u v : Value) (found : Option ℤ) → Tells ev d s u → Tells ev d t v → ((facts : Facts) → IfSome found (λ n. applied facts op (two u v) ≡ Gives (Plain (Long n)))) →
+        IfSome found (λ n. Tells ev (d + 1) (binary op s t) (Plain (Long n)))
     long_tells op s t u v None h g k = tt
     long_tells op s t u v (Some n) h g k = two_tells op s t u v (Plain (Long n)) h g (λ facts has. k facts)
 
