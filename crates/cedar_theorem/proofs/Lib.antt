@@ -1,0 +1,4 @@
+mod Reading
+mod Holding
+mod Asking
+mod Laws
