@@ -10,7 +10,9 @@ has as many.
 A crate may also stand before the words: a heading of docs/DEFINITIONS.md names the crate of the words in brackets below it, and
 a row of docs/PROOFS.md that begins with a crate in bold is one of its calls, as are the rows after it. In docs/ARCHITECTURE.md
 each crate has a row, whose last cell is what tools/rooms.py finds nearest below it. No paragraph has more than 100 words, and
-the pages of docs/ have 20,000 at most. README.md says that each call that may be refused is shown to succeed: tools/called.py
+the pages of docs/ have 20,000 at most, README.md 1,600. A link to a line (`word` of a file, #L12) leads to one with that word on it. Each row of
+docs/THEOREM.md that begins with a law has the figures of tools/trusted_base.py, as README.md does, and nothing in the tree is assumed
+or left open. README.md says that each call that may be refused is shown to succeed: tools/called.py
 finds those that no program, example or row makes.
 
 Prints a line for each that isn't so, and ends with status 1 where there is any."""
@@ -24,12 +26,14 @@ import sys
 sys.dont_write_bytecode = True
 import called
 import rooms
+import trusted_base
 
 NUMBERS = "no one two three four five six seven eight nine ten eleven twelve".split()
 # A word in capitals stands for whatever name is there.
 PATTERN = re.compile(r"\b[A-Z]{4,}\b(?!\.md)")
 FILE = re.compile(r"^[\w.+*/-]+\.(md|py|rt|antt|edit|txt|c|h|rs|sh|stdin|stdout)$")
-LONGEST, WHOLE = 100, 20_000
+LONGEST, WHOLE, FIRST_PAGE = 100, 20_000, 1_600
+THEOREM = "cedar_theorem.specs.Theorem.IsAnsweredByTheRules"
 
 
 def text_of(path):
@@ -118,6 +122,15 @@ def faults_of_line(tree, line):
     yield from wrong_counts(tree, line)
 
 
+def faults_of_links(page, line):
+    """Each link to a line of a file that hasn't the word between backquotes before it."""
+    for word, path, number in re.findall(r"\[`([^`]+)`\]\(([^)#\s]+)#L(\d+)\)", line):
+        file = os.path.normpath(os.path.join(os.path.dirname(page), path))
+        lines = text_of(file).splitlines() if os.path.isfile(file) else []
+        if int(number) > len(lines) or not re.search(rf"\b{re.escape(word)}\b", lines[int(number) - 1]):
+            yield f"line {number} of {file} hasn't `{word}`"
+
+
 def number_of(word):
     return int(word) if word.isdigit() else NUMBERS.index(word.lower())
 
@@ -176,6 +189,32 @@ def faults_of_architecture(tree, text):
     yield from ((1, f"no row has `{it}`") for it in below if it not in rows)
 
 
+def faults_of_theorem(tree, text):
+    rows = 0
+    for number, line in prose(text):
+        cells = cells_of(line) if re.match(r"\| `cedar_\w+(\.|::)", line) else []
+        if len(cells) != 5:
+            continue
+        rows += 1
+        files, definitions, told, plain, _ = trusted_base.figures([cells[0].strip("`")])[-1]
+        have = [f"{it:,}" for it in (definitions, files, told, plain)]
+        if cells[1:] != have:
+            yield number, f"{cells[0]} rests on {' | '.join(have)}"
+    if not rows:
+        yield 1, "no row says what a law rests on"
+    yield from ((1, f"{path}:{number}: {what}") for path, number, what in trusted_base.assumed(sorted(tree.crates)))
+
+
+def faults_of_first_page(text):
+    told = trusted_base.figures([THEOREM])[-1][2]
+    for number, line in prose(text):
+        for found in re.findall(r"([\d,]+) lines of definitions", line):
+            if found != f"{told:,}":
+                yield number, f"the theorem rests on {told:,} lines of definitions"
+    if len(text.split()) > FIRST_PAGE:
+        yield 1, f"{len(text.split())} words, more than {FIRST_PAGE}"
+
+
 def long_paragraphs(text):
     """Each paragraph, item of a list or cell of a table that is too long, by the line on which it begins."""
     parts, last = [], None
@@ -199,6 +238,7 @@ OF_PAGES = {
     "docs/DEFINITIONS.md": faults_of_definitions,
     "docs/PROOFS.md": faults_of_proofs,
     "docs/ARCHITECTURE.md": faults_of_architecture,
+    "docs/THEOREM.md": faults_of_theorem,
 }
 
 
@@ -206,14 +246,17 @@ def faults_of(tree, page):
     text = text_of(page)
     for number, line in prose(text):
         yield from ((number, why) for why in faults_of_line(tree, line))
+        yield from ((number, why) for why in faults_of_links(page, line))
     yield from long_paragraphs(text)
     if page in OF_PAGES:
         yield from OF_PAGES[page](tree, text)
+    if page == "README.md":
+        yield from faults_of_first_page(text)
 
 
 def main():
     tree = Tree()
-    pages = ["README.md", *sorted(it for it in tree.files if re.fullmatch(r"(docs|bench|include)/[\w.-]+\.md", it))]
+    pages = sorted(it for it in tree.files if re.fullmatch(r"((docs|bench|include)/)?[\w.-]+\.md", it))
     faults = [f"{page}:{number}: {why}" for page in pages for number, why in faults_of(tree, page)]
     words = sum(len(text_of(page).split()) for page in pages if page.startswith("docs/"))
     if words > WHOLE:

@@ -1,11 +1,11 @@
 -- Worked rows: a body that asks, a link and entities, as the definitions of the theorem read them.
 use Rattle.std.specs.Prelude.{◌≡◌, pos, true, false, [], ◌∷◌, codes}
 use Rattle.cedar_language.specs.Uid.{Text, Uid}
-use Rattle.cedar_language.specs.Tree.{Boolean, Long, Entity, MakeSet, MakeRecord, Tree, Lit, Apply, no_trees, a_tree}
+use Rattle.cedar_language.specs.Tree.{Boolean, Long, Entity, MakeSet, MakeRecord, Tree, Lit, Apply, Trees, no_trees, a_tree}
 use Rattle.cedar_language.specs.Value.{Plain, RecordOf, no_values, a_value}
 use Rattle.cedar_language.specs.Authorization.{Known}
 use Rattle.cedar_grammar.specs.Functions.{Functions}
-use Rattle.cedar_theorem.specs.Holdings.{IsBody, nobody, put_all, add_all, without}
+use Rattle.cedar_theorem.specs.Holdings.{Entities, IsBody, nobody, put_all, add_all, without}
 use Rattle.cedar_theorem.specs.Theorem.{Asks}
 
 abbrev pub user : Text → Uid
@@ -35,10 +35,23 @@ one_entity = Apply (MakeRecord (codes "attrs" ∷ codes "parents" ∷ codes "uid
 abbrev pub bare : Tree
 bare = Apply (MakeRecord (codes "uid" ∷ [])) (a_tree (Lit (Entity (user (codes "a")))) no_trees)
 
+-- what is held where such a list is put or added, and nothing was
+abbrev pub after_put : Functions → Trees → Entities
+after_put functions ts = put_all functions nobody ts
+
+abbrev pub after_add : Functions → Trees → Entities
+after_add functions ts = add_all functions nobody ts
+
+abbrev pub a : Uid
+a = user (codes "a")
+
+abbrev pub b : Uid
+b = user (codes "b")
+
 pub record Rows (functions : Functions) : Type 0 where
   pub asks : (text : Text) → IsBody functions text asking → Asks functions text asked
-  pub put : (put_all functions nobody (a_tree one_entity no_trees)).has_parent (user (codes "a")) (user (codes "b")) ≡ true
-  pub other : (put_all functions nobody (a_tree one_entity no_trees)).has_parent (user (codes "b")) (user (codes "a")) ≡ false
-  pub last_put : (put_all functions nobody (a_tree one_entity (a_tree bare no_trees))).has_parent (user (codes "a")) (user (codes "b")) ≡ false
-  pub first_added : (add_all functions nobody (a_tree one_entity (a_tree bare no_trees))).has_parent (user (codes "a")) (user (codes "b")) ≡ true
-  pub removed : (without (put_all functions nobody (a_tree one_entity no_trees)) (a_tree (Lit (Entity (user (codes "b")))) no_trees)).has_parent (user (codes "a")) (user (codes "b")) ≡ false
+  pub put : (after_put functions (a_tree one_entity no_trees)).has_parent a b ≡ true
+  pub other : (after_put functions (a_tree one_entity no_trees)).has_parent b a ≡ false
+  pub last_put : (after_put functions (a_tree one_entity (a_tree bare no_trees))).has_parent a b ≡ false
+  pub first_added : (after_add functions (a_tree one_entity (a_tree bare no_trees))).has_parent a b ≡ true
+  pub removed : (without (after_put functions (a_tree one_entity no_trees)) (a_tree (Lit (Entity b)) no_trees)).has_parent a b ≡ false
