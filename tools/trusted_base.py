@@ -8,8 +8,8 @@ too long and never too short.
 
 Prints for each file how many lines of it are reached, with comments and without, and how long the whole file is with its
 imports; `--words` names the definitions, with their lines. Then what of the toolchain's own definitions is used, by modules, and
-each axiom, hole or abort in the crate of the law and those below it. `--verdict` has the checker judge that crate from nothing, which takes
-long, and prints its last line. Ends with status 1 where an axiom, a hole or an abort stands there, or LAW isn't found."""
+each axiom, hole or abort in the crate of the law and those below it. `--verdict CRATE` has the checker judge a crate from nothing, as
+the program's `cedar_main`, which takes long, and prints its last line. Ends with status 1 where an axiom, a hole or an abort stands there, or LAW isn't found."""
 
 import argparse
 import collections
@@ -297,7 +297,7 @@ def main():
     parser = argparse.ArgumentParser(description="what a statement rests on")
     parser.add_argument("laws", nargs="+", metavar="LAW")
     parser.add_argument("--words", action="store_true", help="name the definitions")
-    parser.add_argument("--verdict", action="store_true", help="have the checker judge the crate")
+    parser.add_argument("--verdict", metavar="CRATE", help="have the checker judge this crate")
     args = parser.parse_args()
     base, crates, rows, (files, definitions, told, plain, whole) = figures(args.laws)
     print("comments  without  file")
@@ -311,8 +311,8 @@ def main():
     below = rooms.read()
     found = list(assumed(sorted(crates.union(*(rooms.below(below, it) for it in crates)))))
     print("\n".join(f"{path}:{number}: {what}" for path, number, what in found) or "no axiom, no hole, no abort")
-    for crate in sorted(crates) if args.verdict else ():
-        print(f"{crate}: {verdict_of(crate)}")
+    if args.verdict:
+        print(f"{args.verdict}: {verdict_of(args.verdict)}")
     return 1 if found else 0
 
 
