@@ -52,22 +52,15 @@ def indent(line):
     return len(line) - len(line.lstrip())
 
 
-class Source:
-    """A file of definitions: what it imports, and what it declares."""
+class Imports:
+    """What a file of definitions, or the ghost lines of code, bring in: names with their modules, and modules by other names."""
 
-    def __init__(self, path):
-        self.path = path
-        with open(path, encoding="utf-8") as it:
-            self.lines = it.read().splitlines()
-        self.names, self.modules, self.reexports = {}, {}, {}
-        self.declared, self.definitions = {}, []
-        for line in self.lines:
-            found = IMPORT.match(line)
-            if found:
-                self.imports(*found.groups())
-        self.block(0, len(self.lines), 0, [])
+    def __init__(self, lines):
+        self.names, self.modules, self.handed_on = {}, {}, {}
+        for found in filter(None, map(IMPORT.match, lines)):
+            self.add(*found.groups())
 
-    def imports(self, public, module, names, alias):
+    def add(self, public, module, names, alias):
         if names is None:
             self.modules[alias or module.rpartition(".")[2]] = module
             return
@@ -75,7 +68,19 @@ class Source:
             name, _, other = item.partition(" as ")
             self.names[(other or name).strip()] = (module, name.strip())
             if public:
-                self.reexports[(other or name).strip()] = (module, name.strip())
+                self.handed_on[(other or name).strip()] = (module, name.strip())
+
+
+class Source:
+    """A file of definitions: what it imports, and what it declares."""
+
+    def __init__(self, path):
+        self.path = path
+        with open(path, encoding="utf-8") as it:
+            self.lines = it.read().splitlines()
+        self.imports = Imports(self.lines)
+        self.declared, self.definitions = {}, []
+        self.block(0, len(self.lines), 0, [])
 
     def block(self, start, end, depth, heads):
         """The definitions at one depth; `heads` are the lines of the modules around them."""
@@ -133,19 +138,23 @@ class Source:
 
 
 class Code:
-    """A file of code that declares a type of which definitions speak, by its `enum` or `struct` alone."""
+    """A file of code that declares types of which definitions speak; of it their `enum` or `struct` alone."""
 
-    def __init__(self, path, name):
+    def __init__(self, path):
         self.path = path
         with open(path, encoding="utf-8") as it:
             self.lines = it.read().splitlines()
-        at = next(n for n, line in enumerate(self.lines) if re.match(rf"pub (enum|struct) {name}\b", line))
-        last = next(n for n in range(at, len(self.lines)) if self.lines[n].startswith("}"))
-        comment = []
-        while self.lines[at - 1].startswith(("///", "#[")):
-            at -= 1
-            comment.insert(0, at)
-        self.definitions = [Definition(path, name, at + len(comment), list(range(at + len(comment), last + 1)), comment, "")]
+
+    def definition(self, name):
+        """A type that is declared there, with the comment above it, if one has this name."""
+        at = next((n for n, line in enumerate(self.lines) if re.match(rf"pub (enum|struct) {name}\b", line)), None)
+        if at is None:
+            return None
+        last = next(n for n in range(at, len(self.lines)) if self.lines[n].rstrip().endswith(("}", ";")) and not self.lines[n].startswith(" "))
+        first = at
+        while self.lines[first - 1].startswith(("///", "#[")):
+            first -= 1
+        return Definition(self.path, name, at, list(range(at, last + 1)), list(range(first, at)), "")
 
 
 class Base:
@@ -173,15 +182,18 @@ class Base:
         source = self.source(path)
         if name in source.declared:
             self.reach(source, source.declared[name])
-        elif name in source.reexports:
-            self.follow(*source.reexports[name])
+        elif name in source.imports.handed_on:
+            self.follow(*source.imports.handed_on[name])
 
     def declared_in_code(self, crate, parts):
         """A type that the code of a crate declares: `declared.file.Type`, and its variants below that."""
-        file, name = parts[1], parts[2]
-        code = Code(os.path.join("crates", crate, "src", file + ".rt"), name)
-        self.sources.setdefault(code.path, code)
-        self.reached.setdefault(code.definitions[0].key(), code.definitions[0])
+        path = os.path.join("crates", crate, "src", f"{parts[1]}.rt") if len(parts) > 2 else ""
+        if not os.path.isfile(path):
+            return
+        code = self.sources.setdefault(path, Code(path))
+        made = code.definition(parts[2])
+        if made:
+            self.reached.setdefault(made.key(), made)
 
     def reach(self, source, definition):
         if definition.key() in self.reached:
@@ -192,15 +204,16 @@ class Base:
     def words(self, source, words):
         """Follows each word by what a source declares and imports."""
         glyphs = set("".join(it for it in words if not re.match(r"\w", it)))
+        names, modules = source.imports.names, source.imports.modules
         for word in words:
             first, _, rest = word.partition(".")
             if first in source.declared:
                 self.reach(source, source.declared[first])
-            elif first in source.names:
-                self.follow(*source.names[first])
-            elif first in source.modules and rest:
-                self.follow(source.modules[first], rest.partition(".")[0])
-        for name, (module, own) in source.names.items():
+            elif first in names:
+                self.follow(*names[first])
+            elif first in modules and rest:
+                self.follow(modules[first], rest.partition(".")[0])
+        for name, (module, own) in names.items():
             if "◌" in name and self.is_written(name, words, glyphs):
                 self.follow(module, own)
 
@@ -212,36 +225,33 @@ class Base:
 
 
 class Law:
-    """A function whose contract is a statement: what it ensures, and where."""
+    """A function whose contract is a statement: the words of its head, and what stands there by imports."""
 
-    def __init__(self, path, name):
-        with open(path, encoding="utf-8") as it:
-            text = it.read()
-        found = re.search(rf"\bpub fn {name}\b.*?\n(.*?)^\}}|\bpub fn {name}\b.*?\n(.*?)^\{{\}}", text, re.DOTALL | re.MULTILINE)
-        self.clauses = "\n".join(re.findall(r"^ +ensures.*$", found[0], re.MULTILINE))
-        self.words = set(WORD.findall(self.clauses))
-        self.declared, self.names, self.modules = {}, {}, {}
-        for line in text.splitlines():
-            parts = IMPORT.match(line)
-            if parts and "ghost use" in line:
-                Source.imports(self, *parts.groups())
+    declared = {}
 
-    reexports = {}
+    def __init__(self, text, head):
+        self.words = set(WORD.findall(head))
+        self.imports = Imports(it for it in text.splitlines() if "ghost use" in it)
 
 
 def reach_law(base, law):
     """Adds what one statement reaches; the answer is its crate."""
     if "::" not in law:
         module, _, name = law.rpartition(".")
+        before = len(base.reached)
         base.follow("Rattle." + module, name)
+        if len(base.reached) == before:
+            raise SystemExit(f"there is no {law}")
         return module.partition(".")[0]
     crate, *_, name = law.split("::")
     folder = os.path.join("crates", crate, "src")
-    for file in sorted(os.listdir(folder)):
-        path = os.path.join(folder, file)
-        if file.endswith(".rt") and re.search(rf"\bpub fn {name}\b", open(path, encoding="utf-8").read()):
-            it = Law(path, name)
-            base.words(it, it.words)
+    for file in sorted(it for it in os.listdir(folder) if it.endswith(".rt")):
+        with open(os.path.join(folder, file), encoding="utf-8") as it:
+            text = it.read()
+        head = re.search(rf"(?ms)^( *)pub fn {name}\b.*?^\1\{{", text)
+        if head:
+            found = Law(text, head[0])
+            base.words(found, found.words)
             return crate
     raise SystemExit(f"there is no {law}")
 

@@ -12,12 +12,30 @@ use Rattle.cedar_language.specs.Operators.{applied, called}
 use Rattle.cedar_grammar.specs.Functions.{Functions, is_the_unknown}
 use Rattle.cedar_grammar.specs.UnknownCalls.{unknown_or, named_call, named, all_named}
 use Rattle.cedar_world.specs.Orders.{text_eq}
-use Rattle.cedar_world.specs.Asking.{Part, Given, Entries, NoContext, WithEntries, Question}
+use Rattle.cedar_world.specs.Asking.{Part, Given, Missing, Entries, NoContext, WithEntries, Question}
 use Rattle.cedar_world.specs.Bodies.{some_name, some_name_of, entity_of, zipped, found, if_there, part_with, part_fields, action_fields, entries_of, optional, question_with, question_fields, question_keys, ask_body}
 use Rattle.cedar_world.specs.Question.{is_unknown, IsKnown}
 use Rattle.cedar_world.proofs.Parts.{not_none, same_some}
 use Rattle.cedar_theorem.specs.Bodies.{entry, field, no_entities, no_question, given, value_in}
 use Rattle.cedar_theorem.proofs.Reading.{record_read, entry_found}
+
+-- ---- parts of questions
+
+uid_of : Part → Uid → Uid
+uid_of (Given u) other = u
+uid_of (Missing type) other = other
+
+pub same_part : (u w : Uid) → Given u ≡ Given w → u ≡ w
+unfolding uid_of
+same_part u w e = ap (λ p. uid_of p w) e
+
+tree_of : Entries → Tree → Tree
+tree_of (WithEntries keys entries) other = Apply (MakeRecord keys) entries
+tree_of NoContext other = other
+
+pub same_tree : (ks js : List Text) (ts us : Trees) → WithEntries ks ts ≡ WithEntries js us → Apply (MakeRecord ks) ts ≡ Apply (MakeRecord js) us
+unfolding tree_of
+same_tree ks js ts us e = ap (λ c. tree_of c (Apply (MakeRecord js) us)) e
 
 -- ---- operands that give values
 
@@ -130,7 +148,7 @@ part_is_given u None p e = absurd (not_none p e)
 part_read : (o : Option Tree) (u : Uid) → o ≡ Some (Lit (Entity u)) → (x : Option (Option Name)) (p : Part) → part_with (if_there entity_of o) x ≡ Some p → p ≡ Given u
 part_read o u is x p e = part_is_given u x p (sym (ap (λ q. part_with (if_there entity_of q) x) is) ∙ e)
 
-question_parts : (o p q : Option Part) (c : Option (Option Entries)) (all : Question) → question_with o p q c ≡ Some all
+pub question_parts : (o p q : Option Part) (c : Option (Option Entries)) (all : Question) → question_with o p q c ≡ Some all
     → (entries : Option Entries) × (o ≡ Some all.principal) × (p ≡ Some all.action) × (q ≡ Some all.resource) × (c ≡ Some entries) × (all.context ≡ unwrap_or entries NoContext)
 question_parts (Some principal) (Some action) (Some resource) (Some context) all e =
     let is = same_some _ all e in

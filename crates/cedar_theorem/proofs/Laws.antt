@@ -1,8 +1,8 @@
 -- A session's answers are those of the theorem.
-use Rattle.std.proofs.Common.{◌≡◌, ◌⊎◌, inl, inr, Bool, true, false, Some, None, List, map, refl, sym, ◌∙◌, ap, subst}
-use Rattle.cedar_language.specs.Uid.{Text, Name, Uid}
+use Rattle.std.proofs.Common.{◌≡◌, ◌⊎◌, inl, inr, Bool, true, false, Some, None, map, refl, sym, ◌∙◌, ap, subst}
+use Rattle.cedar_language.specs.Uid.{Text, Name}
 use Rattle.cedar_language.specs.Restricted.{is_restricted}
-use Rattle.cedar_language.specs.Tree.{MakeRecord, Tree, Apply, Trees}
+use Rattle.cedar_language.specs.Tree.{MakeRecord, Apply}
 use Rattle.cedar_language.specs.Value.{Value, Outcome, Gives}
 use Rattle.cedar_language.specs.Facts.{Facts}
 use Rattle.cedar_language.specs.Meaning.{meaning}
@@ -11,7 +11,7 @@ use Rattle.cedar_language.specs.Authorization.{Known, request_at}
 use Rattle.cedar_grammar.specs.Functions.{Functions}
 use Rattle.cedar_world.specs.Answer.{Answer}
 use Rattle.cedar_world.specs.Answers.{judge}
-use Rattle.cedar_world.specs.Asking.{Part, Given, Missing, Entries, NoContext, WithEntries, Question}
+use Rattle.cedar_world.specs.Asking.{Question}
 use Rattle.cedar_world.specs.Bodies.{ask_body}
 use Rattle.cedar_world.specs.Commands.{Ask, Refusal, NotUtf8, NotRestricted, Memory, Answered, Refused}
 use Rattle.cedar_world.specs.EditLaws.{EditsAtUids}
@@ -27,26 +27,10 @@ use Rattle.cedar_theorem.specs.Bodies.{no_entities}
 use Rattle.cedar_theorem.specs.Holdings.{AreFacts}
 use Rattle.cedar_theorem.specs.Theorem.{Asks, IsSatisfied, SomeSatisfied, IsByTheRules}
 use Rattle.cedar_theorem.specs.Laws.{SessionsAnswerByTheRules}
-use Rattle.cedar_theorem.proofs.Asking.{IsQuestion, question_read, is_known, means_again}
+use Rattle.cedar_theorem.proofs.Asking.{same_part, same_tree, IsQuestion, question_read, is_known, means_again}
 use Rattle.cedar_theorem.proofs.Holding.{policies_of, entities_of, same_in_force, holds}
 
 -- ---- the request that a question is
-
-uid_of : Part → Uid → Uid
-uid_of (Given u) other = u
-uid_of (Missing type) other = other
-
-same_part : (u w : Uid) → Given u ≡ Given w → u ≡ w
-unfolding uid_of
-same_part u w e = ap (λ p. uid_of p w) e
-
-tree_of : Entries → Tree → Tree
-tree_of (WithEntries keys entries) other = Apply (MakeRecord keys) entries
-tree_of NoContext other = other
-
-same_tree : (ks js : List Text) (ts us : Trees) → WithEntries ks ts ≡ WithEntries js us → Apply (MakeRecord ks) ts ≡ Apply (MakeRecord js) us
-unfolding tree_of
-same_tree ks js ts us e = ap (λ c. tree_of c (Apply (MakeRecord js) us)) e
 
 value_of : Outcome → Value → Value
 value_of (Gives v) other = v

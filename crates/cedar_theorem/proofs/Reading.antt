@@ -84,7 +84,7 @@ given_same : (o : Outcome) → given_value o ≡ given o
 given_same (Gives v) = refl
 given_same (Fails k) = refl
 
-nothing_told : names_told map.empty ≡ no_question
+pub nothing_told : names_told map.empty ≡ no_question
 nothing_told = λ i. record {
   variable = λ v. RecordOf [] no_values;
   unknown = λ n type. name_outcome (map.get-empty text_cmp n i) type;
