@@ -1,5 +1,5 @@
 #!/usr/bin/env python3
-"""check_docs.py, at the top of the repository: what README.md and docs/ name stands in the tree.
+"""check_docs.py [--figures], at the top of the repository: what README.md and docs/ name stands in the tree.
 
 Between backquotes a page may name a crate, a word of a crate (`word` of `crate`, also several words: `a`, `b` and `c` of
 `crate`), a function of a crate (`crate::function`), a file, a folder or a must-fail edit. Each has to be there: a crate has a
@@ -15,6 +15,7 @@ docs/THEOREM.md that begins with a law has the figures of tools/trusted_base.py,
 or left open. README.md says that each call that may be refused is shown to succeed: tools/called.py
 finds those that no program, example or row makes.
 
+--figures writes the figures of docs/THEOREM.md and README.md again, and the lines to which links lead that have lost their word.
 Prints a line for each that isn't so, and ends with status 1 where there is any."""
 
 import os
@@ -34,11 +35,19 @@ PATTERN = re.compile(r"\b[A-Z]{4,}\b(?!\.md)")
 FILE = re.compile(r"^[\w.+*/-]+\.(md|py|rt|antt|edit|txt|c|h|rs|sh|stdin|stdout)$")
 LONGEST, WHOLE, FIRST_PAGE = 100, 20_000, 1_600
 THEOREM = "cedar_theorem.specs.Theorem.IsAnsweredByTheRules"
+LAW = re.compile(r"\| `cedar_\w+(\.|::)")
+LINES = re.compile(r"([\d,]+) lines of definitions")
+LINK = re.compile(r"\[`([^`]+)`\]\(([^)#\s]+)#L(\d+)\)")
 
 
 def text_of(path):
     with open(path, encoding="utf-8", errors="replace") as it:
         return it.read()
+
+
+def write(path, text):
+    with open(path, "w", encoding="utf-8") as it:
+        it.write(text)
 
 
 def tracked():
@@ -122,13 +131,29 @@ def faults_of_line(tree, line):
     yield from wrong_counts(tree, line)
 
 
+def target_of(page, link):
+    """The file to which a link leads, with its lines, and whether the one that it names has the word."""
+    word, path, number = link.groups()
+    file = os.path.normpath(os.path.join(os.path.dirname(page), path))
+    lines = text_of(file).splitlines() if os.path.isfile(file) else []
+    holds = int(number) <= len(lines) and re.search(rf"\b{re.escape(word)}\b", lines[int(number) - 1])
+    return file, lines, bool(holds)
+
+
 def faults_of_links(page, line):
     """Each link to a line of a file that hasn't the word between backquotes before it."""
-    for word, path, number in re.findall(r"\[`([^`]+)`\]\(([^)#\s]+)#L(\d+)\)", line):
-        file = os.path.normpath(os.path.join(os.path.dirname(page), path))
-        lines = text_of(file).splitlines() if os.path.isfile(file) else []
-        if int(number) > len(lines) or not re.search(rf"\b{re.escape(word)}\b", lines[int(number) - 1]):
-            yield f"line {number} of {file} hasn't `{word}`"
+    for link in LINK.finditer(line):
+        file, _, holds = target_of(page, link)
+        if not holds:
+            yield f"line {link[3]} of {file} hasn't `{link[1]}`"
+
+
+def mended(page, link):
+    """A link, to the first line that declares its word where the one that it names hasn't it."""
+    _, lines, holds = target_of(page, link)
+    declares = re.compile(rf"\s*(?:(?:abbrev|pub|data|record) )*{re.escape(link[1])}(?: |$)")
+    at = next((n for n, it in enumerate(lines, 1) if declares.match(it)), link[3])
+    return link[0] if holds else f"[`{link[1]}`]({link[2]}#L{at})"
 
 
 def number_of(word):
@@ -189,16 +214,28 @@ def faults_of_architecture(tree, text):
     yield from ((1, f"no row has `{it}`") for it in below if it not in rows)
 
 
+def figures_of(law):
+    """How many definitions, files, lines and lines without comments a law rests on, as a page has them."""
+    files, definitions, told, plain, _ = trusted_base.figures([law.strip("`")])[-1]
+    return [f"{it:,}" for it in (definitions, files, told, plain)]
+
+
+def write_figures():
+    page, row = "docs/THEOREM.md", lambda it: " | ".join(["", *it[:2], *figures_of(it[0]), ""]).strip()
+    lines = [row(cells_of(it)) if LAW.match(it) else it for it in text_of(page).splitlines()]
+    write(page, LINK.sub(lambda it: mended(page, it), "\n".join(lines) + "\n"))
+    write("README.md", LINES.sub(f"{figures_of(THEOREM)[2]} lines of definitions", text_of("README.md")))
+
+
 def faults_of_theorem(tree, text):
     rows = 0
     for number, line in prose(text):
-        cells = cells_of(line) if re.match(r"\| `cedar_\w+(\.|::)", line) else []
-        if len(cells) != 5:
+        cells = cells_of(line) if LAW.match(line) else []
+        if len(cells) != 6:
             continue
         rows += 1
-        files, definitions, told, plain, _ = trusted_base.figures([cells[0].strip("`")])[-1]
-        have = [f"{it:,}" for it in (definitions, files, told, plain)]
-        if cells[1:] != have:
+        have = figures_of(cells[0])
+        if cells[2:] != have:
             yield number, f"{cells[0]} rests on {' | '.join(have)}"
     if not rows:
         yield 1, "no row says what a law rests on"
@@ -206,11 +243,11 @@ def faults_of_theorem(tree, text):
 
 
 def faults_of_first_page(text):
-    told = trusted_base.figures([THEOREM])[-1][2]
+    told = figures_of(THEOREM)[2]
     for number, line in prose(text):
-        for found in re.findall(r"([\d,]+) lines of definitions", line):
-            if found != f"{told:,}":
-                yield number, f"the theorem rests on {told:,} lines of definitions"
+        for found in LINES.findall(line):
+            if found != told:
+                yield number, f"the theorem rests on {told} lines of definitions"
     if len(text.split()) > FIRST_PAGE:
         yield 1, f"{len(text.split())} words, more than {FIRST_PAGE}"
 
@@ -255,6 +292,10 @@ def faults_of(tree, page):
 
 
 def main():
+    if sys.argv[1:] == ["--figures"]:
+        write_figures()
+    elif sys.argv[1:]:
+        sys.exit(__doc__)
     tree = Tree()
     pages = sorted(it for it in tree.files if re.fullmatch(r"((docs|bench|include)/)?[\w.-]+\.md", it))
     faults = [f"{page}:{number}: {why}" for page in pages for number, why in faults_of(tree, page)]
