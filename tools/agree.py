@@ -7,8 +7,8 @@ folder, and each request has `principal`, `action`, `resource`, `context`, and t
 and requests are JSON, which is turned into bodies here; schemas are not looked at. A case file is one session: `put`, `load`, then
 an `ask` for each request, whose decision, reasons and erring policies must be the same sets.
 
-Left out, each with why, are files whose policies or entities call an extension function that the program doesn't have, and numbers
-that are no longs. All else that is refused differs. Prints each request that differs, how many agree, differ and
+Left out, each with why, are files whose policies or entities call an extension function that the program doesn't have, those that ask
+for groups of actions, which stand in a schema, and numbers that are no longs. All else that is refused differs. Prints each request that differs, how many agree, differ and
 are left out, and ends with status 1 where one differs or none agrees."""
 
 import argparse
@@ -24,6 +24,7 @@ ESCAPES = {ord(it): f"\\u{{{ord(it):x}}}" for it in map(chr, [*range(32), 127])}
 ESCAPES.update(str.maketrans({"\\": "\\\\", '"': '\\"', "\n": "\\n", "\r": "\\r", "\t": "\\t", "\0": "\\0"}))
 ANSWER = re.compile(r"(allow|deny|open) must=\[(.*?)\] may=\[.*?\] erring=\[(.*)\]")
 ID = re.compile(r'"((?:\\.|[^"\\])*)"')
+GROUPS = re.compile(r"\baction\s+in\b")
 EXTENSION = re.compile(r"(?<![\w.:])(ip|decimal|datetime|duration)\(")
 
 
@@ -123,6 +124,8 @@ def expected_of(request):
 def session_of(case, folder, file, program):
     """What the program answers to each request, in order."""
     policies = read(folder, file, case["policies"])
+    if case.get("schema") and GROUPS.search(policies):
+        raise LeftOut("`action in` asks for groups that stand in a schema")
     entities = json.loads(read(folder, file, case["entities"]))
     frames = [frame("put", listed(entities)), frame("load", policies), *(frame("ask", question_of(it)) for it in case["requests"])]
     put, load, *answers = [*lines_of(program, frames), *["no line"] * len(frames)][: len(frames)]
