@@ -6,3 +6,5 @@ pub mod Rules
 pub mod Lists
 pub mod NoSlots
 pub mod Whole
+pub mod ReadAttributes
+pub mod Asked
