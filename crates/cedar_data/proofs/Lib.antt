@@ -7,3 +7,5 @@ pub mod Spelled
 pub mod Lists
 pub mod NoSlots
 pub mod Whole
+pub mod ReadAttributes
+pub mod Asked

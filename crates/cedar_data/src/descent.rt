@@ -5,7 +5,7 @@ ghost use Rattle.cedar_names.specs.Identifiers.{IsUnreservedId};
 ghost use Rattle.cedar_data.specs.Classes.{mark_of};
 ghost use Rattle.cedar_data.specs.Data.{ReadsData, ReadsBehind, ReadsItems, ReadsEntry, ReadsEntries};
 
-use crate::leaves::{Path, boolean, entity};
+use crate::leaves::{Path, boolean, uid_of};
 use crate::reader::Reader;
 use crate::texts::Sign;
 use crate::type_names::TypeNames;
@@ -49,11 +49,9 @@ impl<'t> Reader<'t> {
         ensures { IfOk result (λ e. ReadsData (Unary (inner styles.now levels)) (suc levels) self.old e self.new) }
     {
         match self.next_byte() {
-            b'"' => Ok(self.string_literal(alloc)?),
+            b'"' | b'-' | b'0'..=b'9' => Ok(Expr::val(self.literal(alloc)?)),
             b'[' => Ok(self.list(alloc, styles, types, levels)?),
             b'{' => Ok(self.record(alloc, styles, types, levels)?),
-            b'-' => Ok(self.negative()?),
-            b'0'..=b'9' => Ok(self.positive()?),
             _ => Ok(self.named(alloc, styles, types, levels)?),
         }
     }
@@ -131,7 +129,8 @@ impl<'t> Reader<'t> {
         match path {
             Path::EntityType(entity_type) => {
                 let id = self.string()?;
-                Ok(entity(alloc, entity_type, id)?)
+                let uid = uid_of(alloc, entity_type, id)?;
+                Ok(Expr::val(Literal::EntityUID(uid)))
             }
             Path::Called(function) => {
                 if !styles.is_function(&function) {

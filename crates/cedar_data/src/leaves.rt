@@ -1,14 +1,11 @@
 // Numbers, names and entities.
-ghost use Rattle.std.specs.Prelude.{◌≡◌, ◌≢◌, ◌<◌, ◌≤◌, ◌^◌, ℕ, Bool, suc, IfOk, IfNone, IfSome, codes, cond, pos, neg_ℤ};
+ghost use Rattle.std.specs.Prelude.{◌≡◌, ◌≢◌, ◌<◌, ◌≤◌, ◌^◌, Bool, IfOk, IfNone, IfSome, codes, cond, pos, neg_ℤ};
 ghost use Rattle.cedar_language.specs.Tree as tree;
 ghost use Rattle.cedar_grammar.specs.Build.{long};
 ghost use Rattle.cedar_literals.specs.Literals.{literal_of};
-ghost use Rattle.cedar_grammar.specs.Grammar.{Unary, inner};
-ghost use Rattle.cedar_grammar.specs.Names.{Names};
 ghost use Rattle.cedar_grammar.specs.Token.{number, word, word_of};
 ghost use Rattle.cedar_names.specs.Identifiers.{IsUnreservedId};
-ghost use Rattle.cedar_trees.specs.Bare.{bare};
-ghost use Rattle.cedar_data.specs.Data.{ReadsData, ReadsPathTo, ReadsKey};
+ghost use Rattle.cedar_data.specs.Data.{ReadsLeaf, ReadsPathTo, ReadsKey};
 ghost use Rattle.cedar_data.specs.Takes.{Takes};
 
 use crate::names::name_of;
@@ -21,7 +18,6 @@ use cedar_literals::uids::{Eid, EntityType, EntityUID};
 use cedar_names::comparing::is_same;
 use cedar_names::identifiers::is_normalized_ident;
 use cedar_names::names::Name;
-use cedar_trees::expr::Expr;
 use std::alloc::{AllocError, Global};
 use std::rc::{Rc, RcStr};
 
@@ -37,13 +33,13 @@ pub enum Path {
 /// The least number that is no long.
 const TOO_LARGE: u64 = 0x8000_0000_0000_0000;
 
-/// The entity of this type and id; refused for memory alone.
-pub fn entity(alloc: Global, entity_type: Name, id: &str) -> Result<Expr, AllocError>
-    ensures { IfOk result (λ made. bare made ≡ tree.Lit (tree.Entity (record { type_name = entity_type; id = id.now }))) }
+/// The uid of this type and id; refused for memory alone.
+pub fn uid_of(alloc: Global, entity_type: Name, id: &str) -> Result<Rc<EntityUID>, AllocError>
+    ensures { IfOk result (λ uid. uid.value ≡ record { type_name = entity_type; id = id.now }) }
 {
     let eid = Eid::new(RcStr::from_str(alloc, id)?);
     let uid = EntityUID::from_components(EntityType::from(entity_type), eid, None);
-    Ok(Expr::val(Literal::EntityUID(Rc::new(alloc, uid)?)))
+    Ok(Rc::new(alloc, uid)?)
 }
 
 // The number, where it is a long.
@@ -87,12 +83,12 @@ pub fn boolean(word: &str) -> Option<bool>
 }
 
 impl<'t> Reader<'t> {
-    /// Takes a string, which has to be next.
-    pub fn string_literal(&mut self, alloc: Global) -> Result<Expr, Unread>
-        ensures { IfOk result (λ e. (names : Names) (n : ℕ) → ReadsData (Unary (inner names n)) (suc n) self.old e self.new) }
+    // Takes a string, which has to be next.
+    fn string_literal(&mut self, alloc: Global) -> Result<Literal, Unread>
+        ensures { IfOk result (λ l. ReadsLeaf self.old (tree.Lit (literal_of l)) self.new) }
     {
         let text = self.string()?;
-        Ok(Expr::val(Literal::String(RcStr::from_str(alloc, text)?)))
+        Ok(Literal::String(RcStr::from_str(alloc, text)?))
     }
 
     // Takes a number, which has to be next.
@@ -106,26 +102,37 @@ impl<'t> Reader<'t> {
         }
     }
 
-    /// Takes a long without a sign, which has to be next.
-    pub fn positive(&mut self) -> Result<Expr, Unread>
-        ensures { IfOk result (λ e. (names : Names) (n : ℕ) → ReadsData (Unary (inner names n)) (suc n) self.old e self.new) }
+    // Takes a long without a sign, which has to be next.
+    fn positive(&mut self) -> Result<Literal, Unread>
+        ensures { IfOk result (λ l. ReadsLeaf self.old (tree.Lit (literal_of l)) self.new) }
     {
         let number = self.number()?;
         match plus(number) {
-            Some(long) => Ok(Expr::val(long)),
+            Some(long) => Ok(long),
             None => Err(Unread::Other),
         }
     }
 
-    /// Takes a long with a minus, which has to be next.
-    pub fn negative(&mut self) -> Result<Expr, Unread>
-        ensures { IfOk result (λ e. (names : Names) (n : ℕ) → ReadsData (Unary (inner names n)) (suc n) self.old e self.new) }
+    // Takes a long with a minus, which has to be next.
+    fn negative(&mut self) -> Result<Literal, Unread>
+        ensures { IfOk result (λ l. ReadsLeaf self.old (tree.Lit (literal_of l)) self.new) }
     {
         self.expect(Sign::Minus)?;
         let number = self.number()?;
         match minus(number) {
-            Some(long) => Ok(Expr::val(long)),
+            Some(long) => Ok(long),
             None => Err(Unread::Other),
+        }
+    }
+
+    /// Takes a string or a long, which has to be next.
+    pub fn literal(&mut self, alloc: Global) -> Result<Literal, Unread>
+        ensures { IfOk result (λ l. ReadsLeaf self.old (tree.Lit (literal_of l)) self.new) }
+    {
+        match self.next_byte() {
+            b'"' => Ok(self.string_literal(alloc)?),
+            b'-' => Ok(self.negative()?),
+            _ => Ok(self.positive()?),
         }
     }
 
