@@ -96,7 +96,8 @@ impl CalledNames {
         requires { IsSome self.old.bodies }
         ensures called { (functions : Functions) → AreNamesOf functions self.old → AreNamesOf functions self.new }
         ensures made { IsSome self.new.bodies }
-        ensures data { (functions : Functions) → AreNamesOf functions self.old → IfOk result (λ found. IfSome found (IsDataText (body_names functions) depth text.now)) }
+        ensures data { (functions : Functions) → AreNamesOf functions self.old →
+            IfOk result (λ found. IfSome found (IsDataText (body_names functions) depth text.now)) }
     {
         let types = self.types.get_or_insert(TypeNames::new(alloc));
         let styles = self.bodies.as_ref().unwrap();

@@ -50,3 +50,15 @@ returns-in-Err-clause-body g c =
     let reads = subst (λ names. ReadsRestricted names c.args.depth c.args.text.now (Err c.in-Err.error)) same c.in-Err.ensures.body in
     subst (λ r. ReadsBody (setting_with g.F.ExtensionFunctionObject.answers c.args.extensions.now c.args.depth) c.args.text.now (Err r)) (sym c.of_body.ensures)
     (body_refused (setting_with g.F.ExtensionFunctionObject.answers c.args.extensions.now c.args.depth) c.args.text.now (c.texts_are_one.ensures.bodies (setting_with g.F.ExtensionFunctionObject.answers c.args.extensions.now c.args.depth)) c.in-Err.error reads)
+
+pub returns-in_err-found-clause-called : goal.returns-in_err-found-clause-called
+returns-in_err-found-clause-called g c = c.in_err-found.ensures.called (functions_of g.F.ExtensionFunctionObject.answers c.args.extensions.now) c.in_ok-make_for_bodies.ensures.called
+
+pub returns-in-Some-clause-called : goal.returns-in-Some-clause-called
+returns-in-Some-clause-called g c = c.in_ok-found.ensures.called (functions_of g.F.ExtensionFunctionObject.answers c.args.extensions.now) c.in_ok-make_for_bodies.ensures.called
+
+pub returns-in-Ok-clause-called : goal.returns-in-Ok-clause-called
+returns-in-Ok-clause-called g c = c.in_ok-found.ensures.called (functions_of g.F.ExtensionFunctionObject.answers c.args.extensions.now) c.in_ok-make_for_bodies.ensures.called
+
+pub returns-in-Err-clause-called : goal.returns-in-Err-clause-called
+returns-in-Err-clause-called g c = c.in_ok-found.ensures.called (functions_of g.F.ExtensionFunctionObject.answers c.args.extensions.now) c.in_ok-make_for_bodies.ensures.called
