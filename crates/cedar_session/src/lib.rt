@@ -8,6 +8,8 @@
 #![tactic(auto)]
 
 mod asked;
+mod buffered;
+mod buffered_entry;
 mod called_names;
 mod command;
 mod entry;
@@ -23,6 +25,8 @@ mod refusals;
 mod running;
 mod session;
 
+pub use buffered::run_buffered;
+pub use buffered_entry::program_buffered;
 pub use cedar_entities::store::Entities;
 pub use cedar_evaluator::partial_response::PartialResponse;
 pub use cedar_extensions::evaluation_error::EvaluationError;
