@@ -1,7 +1,7 @@
 //! The program `cedar_session`: answers the commands that stand on standard input, a line for each.
 #![tactic(auto)]
 
-use cedar_session::{Watched, program_buffered};
+use cedar_session::{Watched, program};
 use std::env::{Env, FillError};
 use std::io::{BufReader, BufWriter};
 use std::process::ExitCode;
@@ -29,7 +29,7 @@ fn main(rt: HostRuntime) -> ExitCode {
     };
     let mut reader = Watched::new(input);
     let mut writer = Watched::new(output);
-    let status = program_buffered(
+    let status = program(
         rt.alloc(),
         arguments(&rt),
         &mut reader,

@@ -16,10 +16,10 @@ use std::io::{Read, Write};
 pub(crate) const DEPTH: u32 = 256;
 
 /// The exit status where there is no memory.
-pub(crate) const NO_MEMORY: u8 = 4;
+const NO_MEMORY: u8 = 4;
 
 /// The exit status of a run that ended so.
-pub(crate) fn status_of(outcome: Result<End, RunError>) -> u8
+fn status_of(outcome: Result<End, RunError>) -> u8
     ensures { result ≡ status_of outcome }
 {
     match outcome {

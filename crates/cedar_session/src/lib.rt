@@ -9,7 +9,6 @@
 
 mod asked;
 mod buffered;
-mod buffered_entry;
 mod called_names;
 mod command;
 mod entry;
@@ -26,7 +25,6 @@ mod running;
 mod session;
 
 pub use buffered::run_buffered;
-pub use buffered_entry::program_buffered;
 pub use cedar_entities::store::Entities;
 pub use cedar_evaluator::partial_response::PartialResponse;
 pub use cedar_extensions::evaluation_error::EvaluationError;
