@@ -12,7 +12,8 @@ import zipfile
 from typing import Dict, Iterator, Optional, Tuple
 
 HERE = os.path.dirname(os.path.abspath(__file__))
-PACKAGE = "cedar_session"
+# What is used by a program, and the service over it.
+PACKAGE, SERVICE = "cedar_session", "cedar_server"
 Settings = Optional[Dict[str, str]]
 
 
@@ -29,17 +30,26 @@ def _told(key: str) -> str:
     return found[1]
 
 
+def _extras() -> Iterator[str]:
+    """What pyproject.toml says that parts of it need besides."""
+    listed = _read("pyproject.toml").decode().partition("[project.optional-dependencies]")[2]
+    for extra, needs in re.findall(r"(?m)^(\w+) = \[(.*)\]$", listed):
+        yield f"Provides-Extra: {extra}"
+        yield from (f"Requires-Dist: {it}; extra == '{extra}'" for it in re.findall(r'"([^"]+)"', needs))
+
+
 def _metadata() -> bytes:
     head = ["Metadata-Version: 2.1", f"Name: {_told('name')}", f"Version: {_told('version')}", f"Summary: {_told('description')}"]
-    head += [f"Requires-Python: {_told('requires-python')}", "Provides-Extra: copies", "Requires-Dist: psycopg>=3.1; extra == 'copies'"]
+    head += [f"Requires-Python: {_told('requires-python')}", *_extras()]
     head += ["Description-Content-Type: text/markdown", "", _read("README.md").decode()]
     return "\n".join(head).encode()
 
 
 def _sources() -> Iterator[Tuple[str, bytes]]:
-    for name in sorted(os.listdir(os.path.join(HERE, PACKAGE))):
-        if name.endswith((".py", ".typed")):
-            yield f"{PACKAGE}/{name}", _read(f"{PACKAGE}/{name}")
+    for package in (PACKAGE, SERVICE):
+        for name in sorted(os.listdir(os.path.join(HERE, package))):
+            if name.endswith((".py", ".typed")):
+                yield f"{package}/{name}", _read(f"{package}/{name}")
 
 
 def _info() -> str:

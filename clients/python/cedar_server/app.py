@@ -1,0 +1,269 @@
+"""The calls: which path leads to which, who may make it, and what is answered."""
+
+import asyncio
+import json
+import logging
+from contextlib import asynccontextmanager
+from dataclasses import dataclass
+from time import monotonic, perf_counter
+from typing import AsyncIterator, Awaitable, Callable, Dict, FrozenSet, List, Optional, Tuple
+
+from cedar_session import Answer, CedarError, Decision, values
+from starlette.applications import Starlette
+from starlette.exceptions import HTTPException
+from starlette.requests import ClientDisconnect, Request
+from starlette.responses import Response
+from starlette.routing import Route
+
+from . import reading
+from .decisions import Decisions
+from .faults import Fault, fault_of
+from .metrics import Metrics, Row
+from .points import Point
+from .questions import Question, evaluation_of, evaluations_of, question_of
+from .requests import age_of, body_of, header, position_of, query_of
+from .tokens import Doors
+
+Endpoint = Callable[[Request], Awaitable[Response]]
+
+_LOGGER = logging.getLogger("gunicorn.error")
+_ENCODER = json.JSONEncoder(ensure_ascii=False, separators=(",", ":"))
+_QUESTION, _EDIT = frozenset(("position", "age")), frozenset(("expected",))
+_NOTHING: FrozenSet[str] = frozenset()
+_LINK, _SLOTS = frozenset(("template", "id")), frozenset(("principal", "resource"))
+_TOKEN, _REQUEST, _KEY, _LONGEST = b"authorization", b"x-request-id", b"idempotency-key", 200
+
+
+@dataclass(frozen=True)
+class Limits:
+    """How long bodies may be, in bytes; how many seconds they may take; and the age that is asked for where a question says none."""
+
+    body: int = 2_097_152
+    seconds: float = 30
+    age: Optional[float] = None
+
+
+class Service:
+    """The calls, over what answers in this process."""
+
+    def __init__(self, point: Point, doors: Doors, limits: Limits, metrics: Metrics, row: Row, decisions: Optional[Decisions]):
+        self._point, self._doors, self._limits = point, doors, limits
+        self._metrics, self._row, self._decisions = metrics, row, decisions
+
+    def app(self) -> Starlette:
+        handlers = {HTTPException: self._no_path}
+        app = Starlette(routes=self._routes(), exception_handlers=handlers, lifespan=self._lives)  # type: ignore[arg-type]
+        # (another path is another path)
+        app.router.redirect_slashes = False
+        return app
+
+    def _routes(self) -> List[Route]:
+        questions = [
+            ("/access/v1/evaluation", "evaluation", self._evaluation),
+            ("/access/v1/evaluations", "evaluations", self._evaluations),
+            ("/v1/ask", "ask", self._ask),
+        ]
+        edits = [
+            ("/v1/policies", "POST", self._load),
+            ("/v1/policies/{id:path}", "DELETE", self._removal("remove-static")),
+            ("/v1/templates/{id:path}", "DELETE", self._removal("remove-template")),
+            ("/v1/links", "POST", self._link),
+            ("/v1/links/{id:path}", "DELETE", self._removal("unlink")),
+            ("/v1/entities", "PUT", self._entities("put")),
+            ("/v1/entities", "POST", self._entities("add")),
+            ("/v1/entities/remove", "POST", self._entities("remove")),
+        ]
+        shown = [("/healthz", "other", self._health), ("/readyz", "other", self._ready), ("/metrics", "other", self._counts), ("/v1/held", "held", self._held)]
+        return [
+            *(Route(path, self._call(call, do), methods=["POST"]) for path, call, do in questions),
+            *(Route(path, self._call("edit", do), methods=[method]) for path, method, do in edits),
+            *(Route(path, self._call(call, do), methods=["GET"]) for path, call, do in shown),
+        ]
+
+    @asynccontextmanager
+    async def _lives(self, _: Starlette) -> AsyncIterator[None]:
+        running = asyncio.ensure_future(self._point.run())
+        standing = asyncio.ensure_future(self._stands())
+        try:
+            yield
+        finally:
+            for it in (running, standing):
+                it.cancel()
+            self._point.close()
+
+    async def _stands(self) -> None:
+        """Tells once a second where this process is."""
+        while True:
+            self._row.stands(self._point.why_not() is None, self._point.position, self._point.seen())
+            await asyncio.sleep(1)
+
+    # ---- what all calls have
+
+    def _call(self, call: str, do: Endpoint) -> Endpoint:
+        async def answered(request: Request) -> Response:
+            since = perf_counter()
+            try:
+                response = await do(request)
+            except Fault as why:
+                response = _refused(why)
+            except CedarError as why:
+                response = _refused(fault_of(why))
+            except ClientDisconnect:
+                response = _refused(Fault(400, "CutOff", "the body ended before its end"))
+            except Exception:
+                _LOGGER.exception("a call failed")
+                response = _refused(Fault(500, "Failed", "the service failed; its own log says how"))
+            return self._told(request, call, response, perf_counter() - since)
+
+        return answered
+
+    def _told(self, request: Request, call: str, response: Response, seconds: float) -> Response:
+        self._row.requested(call, response.status_code, seconds)
+        given = _given(request)
+        if given is not None:
+            response.headers["x-request-id"] = given
+        return response
+
+    async def _no_path(self, request: Request, why: HTTPException) -> Response:
+        said = Fault(405, "NoMethod", f"{request.method} isn't a method of this path") if why.status_code == 405 else None
+        response = _refused(said or Fault(404, "NoPath", "there is no such path; docs/SERVICE.md has those that are"))
+        response.headers.update(why.headers or {})
+        return self._told(request, "other", response, 0.0)
+
+    async def _json(self, request: Request) -> object:
+        return reading.read(await body_of(request, self._limits.body))
+
+    # ---- questions
+
+    async def _asked(self, request: Request) -> object:
+        """The body of a question, once this process has come to where it is asked."""
+        self._doors.let_ask(header(request, _TOKEN))
+        query = query_of(request, _QUESTION)
+        position, age = position_of(query, "position"), age_of(query)
+        body = await self._json(request)
+        await self._point.come(position or 0, self._limits.age if age is None else age)
+        return body
+
+    def _answer(self, request: Request, question: Question) -> Answer:
+        answer = self._point.ask(question)
+        if self._decisions is not None:
+            self._decisions.tell(question, answer, self._point.position, _given(request))
+        self._row.decided(answer.decision.value)
+        return answer
+
+    async def _ask(self, request: Request) -> Response:
+        question = question_of(await self._asked(request))
+        answer = self._answer(request, question)
+        decision, position = answer.decision.value, self._point.position
+        return _json({"decision": decision, "must": answer.must, "may": answer.may, "erring": answer.erring, "position": position})
+
+    async def _evaluation(self, request: Request) -> Response:
+        return _json(self._evaluated(request, evaluation_of(await self._asked(request))))
+
+    async def _evaluations(self, request: Request) -> Response:
+        asked = evaluations_of(await self._asked(request))
+        if asked.is_one:
+            return _json(self._evaluated(request, asked.questions[0]))
+        found = []
+        for question in asked.questions:
+            found.append(self._evaluated(request, question))
+            if found[-1]["decision"] is asked.last:
+                break
+        return _json({"evaluations": found})
+
+    def _evaluated(self, request: Request, question: Question) -> Dict[str, object]:
+        answer = self._answer(request, question)
+        why = {"reasons": answer.must, "erring": answer.erring, "position": self._point.position}
+        return {"decision": answer.decision is Decision.ALLOW, "context": why}
+
+    # ---- edits
+
+    async def _edited(self, request: Request, verb: str, body: str, needs_position: bool = False) -> Tuple[List[str], int]:
+        expected = position_of(query_of(request, _EDIT), "expected")
+        if needs_position and expected is None:
+            raise Fault(428, "NoPosition", "ids are given again once they are free, so a removal states the position that it was read at", "?expected")
+        return await self._point.edit(verb, body, _key(request), expected)
+
+    def _let_edit(self, request: Request) -> None:
+        self._doors.let_edit(header(request, _TOKEN))
+
+    async def _load(self, request: Request) -> Response:
+        self._let_edit(request)
+        body = await body_of(request, self._limits.body)
+        try:
+            policies = body.decode()
+        except UnicodeDecodeError as why:
+            raise Fault(400, "NotUtf8", f"byte {why.start} isn't UTF-8") from why
+        ids, position = await self._edited(request, "load", policies)
+        return _json({"ids": ids, "position": position})
+
+    async def _link(self, request: Request) -> Response:
+        self._let_edit(request)
+        found = reading.fields(await self._json(request), "", _LINK, _SLOTS)
+        template, link = (reading.text(found[key], f"/{key}") for key in ("template", "id"))
+        principal, resource = (reading.uid(found[key], f"/{key}") if key in found else None for key in ("principal", "resource"))
+        _, position = await self._edited(request, "link", values.link_of(template, link, principal, resource))
+        return _json({"position": position})
+
+    def _removal(self, verb: str) -> Endpoint:
+        async def removed(request: Request) -> Response:
+            self._let_edit(request)
+            _, position = await self._edited(request, verb, values.quoted(request.path_params["id"]), True)
+            return _json({"position": position})
+
+        return removed
+
+    def _entities(self, verb: str) -> Endpoint:
+        async def edited(request: Request) -> Response:
+            self._let_edit(request)
+            body = await self._json(request)
+            listed = values.names_of(reading.items(body, "", reading.uid)) if verb == "remove" else values.listed(reading.entities(body))
+            _, position = await self._edited(request, verb, listed)
+            return _json({"position": position})
+
+        return edited
+
+    # ---- what is shown
+
+    async def _held(self, request: Request) -> Response:
+        self._let_edit(request)
+        query_of(request, _NOTHING)
+        held, position = self._point.held(), self._point.position
+        return _json({"policies": held.policies, "links": held.links, "entities": [it.text() for it in held.entities.values()], "position": position})
+
+    async def _health(self, _: Request) -> Response:
+        return _json({"status": "serves"})
+
+    async def _ready(self, _: Request) -> Response:
+        why = self._point.why_not()
+        if why is not None:
+            raise Fault(503, "NotReady", why)
+        return _json({"status": "ready", "position": self._point.position, "age": round(max(monotonic() - self._point.seen(), 0.0), 3)})
+
+    async def _counts(self, _: Request) -> Response:
+        return Response(self._metrics.text(monotonic()), media_type="text/plain; version=0.0.4")
+
+
+def _json(said: object, status: int = 200) -> Response:
+    return Response(_ENCODER.encode(said), status, media_type="application/json")
+
+
+def _refused(why: Fault) -> Response:
+    response = _json(why.body(), why.status)
+    if why.status == 401:
+        response.headers["www-authenticate"] = "Bearer"
+    return response
+
+
+def _given(request: Request) -> Optional[str]:
+    """The name that the client gave its request."""
+    given = header(request, _REQUEST)
+    return given if given and len(given) <= _LONGEST else None
+
+
+def _key(request: Request) -> Optional[str]:
+    """The key by which an edit is done once, however often it is given."""
+    key = header(request, _KEY)
+    if key is not None and not (key.isascii() and key.isprintable() and 0 < len(key) <= _LONGEST):
+        raise Fault(400, "NoKey", f"a key is 1 to {_LONGEST} characters of ASCII", "Idempotency-Key:")
+    return key

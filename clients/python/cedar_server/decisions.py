@@ -1,0 +1,50 @@
+"""The log of decisions: a line of JSON for each, with the policies that decided."""
+
+import json
+import os
+from datetime import datetime, timezone
+from typing import Optional
+
+from cedar_session import Answer, Entity
+from cedar_session.values import Part
+
+from .faults import Fault
+from .questions import Question
+
+_ENCODER = json.JSONEncoder(ensure_ascii=False, separators=(",", ":"))
+
+
+class Decisions:
+    """A file to which each process adds whole lines. A decision that can't be told there isn't given."""
+
+    def __init__(self, path: str):
+        self._file = os.open(path, os.O_WRONLY | os.O_APPEND | os.O_CREAT | os.O_CLOEXEC, 0o640)
+
+    def tell(self, question: Question, answer: Answer, position: int, request: Optional[str]) -> None:
+        """Adds the line of a decision. The question's context isn't in it."""
+        line = {
+            "time": datetime.now(timezone.utc).isoformat(timespec="milliseconds"),
+            "request": request,
+            "principal": _part(question.principal),
+            "action": _part(question.action),
+            "resource": _part(question.resource),
+            "decision": answer.decision.value,
+            "must": answer.must,
+            "may": answer.may,
+            "erring": answer.erring,
+            "position": position,
+            "process": os.getpid(),
+        }
+        data = _ENCODER.encode(line).encode() + b"\n"
+        try:
+            written = os.write(self._file, data)
+        except OSError as why:
+            raise Fault(503, "NoDecisionLog", f"the log of decisions can't be written: {why.strerror}") from why
+        if written != len(data):
+            raise Fault(503, "NoDecisionLog", "the log of decisions is full")
+
+
+def _part(part: Part) -> Optional[object]:
+    if isinstance(part, Entity):
+        return {"type": part.type, "id": part.id}
+    return {"__unknown": {} if part.type is None else {"type": part.type}}

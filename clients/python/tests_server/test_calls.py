@@ -1,0 +1,375 @@
+"""Tests of the service over a folder: what each call answers, what is refused and how, who is let in, and what slow and broken clients bring
+about."""
+
+import json
+import os
+import signal
+import socket
+import threading
+import time
+import unittest
+
+from tests_server.serving import ADMIN, ALICE, ANY, ASKER, BOB, PHOTO, VIEW, Caller, Service, evaluation, question
+
+EVALUATION, EVALUATIONS = "/access/v1/evaluation", "/access/v1/evaluations"
+REASONS = {"reasons": ["policy0"], "erring": {}, "position": 0}
+NONE = {"reasons": [], "erring": {}, "position": 0}
+TOKEN = {"token": ADMIN}
+
+# A method, a path, a body and what more is sent; the status, the kind and the place of the fault.
+FAULTS = (
+    ("GET", "/", None, {}, 404, "NoPath", ""),
+    ("POST", "/v1/ask/", "{}", {}, 404, "NoPath", ""),
+    ("GET", "/v1/ask", None, {}, 405, "NoMethod", ""),
+    ("DELETE", "/access/v1/evaluation", None, {}, 405, "NoMethod", ""),
+    ("POST", "/v1/ask", "", {}, 400, "NoJson", ""),
+    ("POST", "/v1/ask", b"\xff", {}, 400, "NotUtf8", ""),
+    ("POST", "/v1/ask", "[]", {}, 400, "WrongType", ""),
+    ("POST", "/v1/ask", "[" * 50_000, {}, 400, "TooDeep", ""),
+    ("POST", "/v1/ask", question(hour=0.5), {}, 400, "Float", "/context/hour"),
+    ("POST", "/v1/ask", question(x={"__extn": {"fn": "ip", "arg": "1.1.1.1"}}), {}, 400, "Extension", "/context/x/__extn"),
+    ("POST", "/v1/ask", question(**{"x": json.loads("[" * 200 + "]" * 200), "y": json.loads("[" * 260 + "]" * 260)}), {}, 422, "Refused", ""),
+    ("POST", "/v1/ask?position=x", question(), {}, 400, "NoPosition", "?position"),
+    ("POST", "/v1/ask?position=-1", question(), {}, 400, "NoPosition", "?position"),
+    ("POST", "/v1/ask?age=soon", question(), {}, 400, "NoAge", "?age"),
+    ("POST", "/v1/ask?age=1&age=2", question(), {}, 400, "DoubledKey", "?age"),
+    ("POST", "/v1/ask?aeg=1", question(), {}, 400, "UnknownKey", "?aeg"),
+    ("POST", "/v1/ask?position=1", question(), {}, 409, "Behind", ""),
+    ("POST", "/v1/ask", "x" * 3_000_000, {}, 413, "TooLong", ""),
+    ("POST", EVALUATION, {"subject": ALICE, "resource": PHOTO}, {}, 400, "MissingKey", ""),
+    ("POST", EVALUATION, evaluation({"type": "User::", "id": "x"}), {}, 400, "NoType", "/subject/type"),
+    ("POST", EVALUATIONS, {"subject": ALICE, "action": {"name": "view"}, "evaluations": [{"resource": PHOTO}, {}]}, {}, 400, "MissingKey", "/evaluations/1"),
+    ("POST", "/v1/policies", ANY, {}, 401, "Unauthorized", "Authorization:"),
+    ("POST", "/v1/policies", ANY, {"token": "not one of them at all"}, 401, "Unauthorized", "Authorization:"),
+    ("POST", "/v1/policies", ANY, {"Authorization": "Basic eDp5"}, 401, "Unauthorized", "Authorization:"),
+    ("PUT", "/v1/entities", "[]", {}, 401, "Unauthorized", "Authorization:"),
+    ("GET", "/v1/held", None, {}, 401, "Unauthorized", "Authorization:"),
+    ("GET", "/v1/held", None, TOKEN, 409, "NoLog", ""),
+    ("POST", "/v1/policies", ANY, TOKEN, 409, "NoLog", ""),
+    ("POST", "/v1/policies", b"\xff", TOKEN, 400, "NotUtf8", ""),
+    ("PUT", "/v1/entities", '[{"uid": 1}]', TOKEN, 400, "WrongType", "/0/uid"),
+    ("POST", "/v1/entities/remove", "[{}]", TOKEN, 400, "MissingKey", "/0"),
+    ("POST", "/v1/links", '{"id": "l"}', TOKEN, 400, "MissingKey", ""),
+    ("POST", "/v1/links", {"id": "l", "template": "t", "principal": 1}, TOKEN, 400, "WrongType", "/principal"),
+    ("DELETE", "/v1/policies/policy0", None, TOKEN, 428, "NoPosition", "?expected"),
+    ("DELETE", "/v1/policies/policy0?expected=one", None, TOKEN, 400, "NoPosition", "?expected"),
+    ("POST", "/v1/policies", ANY, {**TOKEN, "Idempotency_Key": "\xe9"}, 400, "NoKey", "Idempotency-Key:"),
+)
+
+
+class OverFolder(unittest.TestCase):
+    """One service for the tests of a class."""
+
+    more = ("--processes", "2")
+
+    @classmethod
+    def setUpClass(cls):
+        cls.service = Service()
+        cls.addClassCleanup(cls.service.remove)
+        cls.service.words += [it.replace("ROOM", cls.service.room) for it in cls.more]
+        cls.service.start()
+
+    def caller(self, *given, **more):
+        caller = self.service.caller(*given, **more)
+        self.addCleanup(caller.close)
+        return caller
+
+
+class Answers(OverFolder):
+    def test_questions_are_answered(self):
+        caller = self.caller()
+        self.assertEqual(caller.ask(hour=9).said, {"decision": "allow", "must": ["policy0"], "may": ["policy0"], "erring": {}, "position": 0})
+        self.assertEqual(caller.ask(hour=18).said, {"decision": "deny", "must": [], "may": [], "erring": {}, "position": 0})
+        self.assertEqual(caller.ask(BOB, hour=9).said["decision"], "deny")
+        self.assertEqual(caller.ask(hour="nine").said, {"decision": "deny", "must": [], "may": [], "erring": {"policy0": "TypeError"}, "position": 0})
+        unknown = {"principal": ALICE, "action": VIEW, "resource": {"__unknown": {"type": "Photo"}}, "context": {"hour": {"__unknown": "now"}}}
+        self.assertEqual(caller.post("/v1/ask?age=0&position=0", unknown).said, {"decision": "open", "must": [], "may": ["policy0"], "erring": {}, "position": 0})
+
+    def test_evaluations_of_authzen(self):
+        caller = self.caller()
+        self.assertEqual(caller.post(EVALUATION, evaluation(hour=9)).said, {"decision": True, "context": REASONS})
+        self.assertEqual(caller.post(EVALUATION, evaluation(BOB, hour=9)).said, {"decision": False, "context": NONE})
+        asked = {**evaluation(hour=9), "evaluations": [{}, {"subject": BOB}, {"context": {"hour": 10}}]}
+        wanted = [{"decision": True, "context": REASONS}, {"decision": False, "context": NONE}, {"decision": True, "context": REASONS}]
+        self.assertEqual(caller.post(EVALUATIONS, asked).said, {"evaluations": wanted})
+        for semantic, count in (("execute_all", 3), ("deny_on_first_deny", 2), ("permit_on_first_permit", 1)):
+            said = caller.post(EVALUATIONS, {**asked, "options": {"evaluations_semantic": semantic}}).said
+            self.assertEqual(said, {"evaluations": wanted[:count]}, semantic)
+        self.assertEqual(caller.post(EVALUATIONS, evaluation(hour=9)).said, {"decision": True, "context": REASONS})
+
+    def test_a_request_keeps_its_name(self):
+        caller = self.caller()
+        for path, body in ((EVALUATION, evaluation(hour=9)), (EVALUATION, "{"), ("/nowhere", "")):
+            self.assertEqual(caller.post(path, body, X_Request_ID="it's me").headers["x-request-id"], "it's me")
+        self.assertIsNone(caller.ask(hour=9).headers["x-request-id"])
+
+
+class Refusals(OverFolder):
+    def test_each_says_where(self):
+        caller = self.caller()
+        for method, path, body, more, *wanted in FAULTS:
+            reply = caller.call(method, path, body, **more)
+            self.assertEqual(list(reply.fault), wanted, f"{method} {path} {body!r:.80}")
+            self.assertEqual(reply.headers["content-type"], "application/json")
+            self.assertTrue(reply.said["error"]["text"])
+            self.assertNotIn("decision", reply.said)
+            self.assertEqual(reply.headers["www-authenticate"], "Bearer" if reply.status == 401 else None)
+
+    def test_what_is_no_http(self):
+        with socket.create_connection(("127.0.0.1", self.service.port), 10) as it:
+            it.sendall(b"allow me\r\n\r\n")
+            self.assertTrue(it.recv(1000).startswith(b"HTTP/1.1 400 "))
+        self.assertEqual(self.caller().ask(hour=9).status, 200)
+
+    def test_bodies_that_grow_past_the_limit(self):
+        """In chunks, so that no head says how long it is."""
+        caller = self.caller()
+        reply = caller.connection
+        reply.request("POST", "/v1/ask", iter([b"[" + b" " * 500_000] + [b" " * 500_000] * 5), {}, encode_chunked=True)
+        response = reply.getresponse()
+        self.assertEqual((response.status, json.loads(response.read())["error"]["kind"]), (413, "TooLong"))
+
+
+class Doors(OverFolder):
+    more = ("--tokens", "ROOM/tokens")
+
+    def test_none_is_let_in_without_a_token(self):
+        calls = (("/v1/ask", question(hour=9)), (EVALUATION, evaluation(hour=9)), (EVALUATIONS, evaluation(hour=9)))
+        for path, body in calls:
+            for token in (None, "x", ASKER[:-1], ASKER + "x", ADMIN.upper()):
+                self.assertEqual(self.caller(token).post(path, body).fault, (401, "Unauthorized", "Authorization:"), (path, token))
+            for token in (ASKER, ADMIN):
+                self.assertEqual(self.caller(token).post(path, body).status, 200, (path, token))
+
+    def test_who_asks_does_not_edit(self):
+        for method, path in (("POST", "/v1/policies"), ("PUT", "/v1/entities"), ("POST", "/v1/links"), ("DELETE", "/v1/links/l?expected=1"), ("GET", "/v1/held")):
+            self.assertEqual(self.caller(ASKER).call(method, path).fault, (403, "Forbidden", "Authorization:"), path)
+
+    def test_who_comes_may_see_whether_it_serves(self):
+        for path in ("/healthz", "/readyz", "/metrics"):
+            self.assertEqual(self.caller().get(path).status, 200)
+
+
+class NoAdmins(unittest.TestCase):
+    def test_nobody_edits_where_no_tokens_were_given(self):
+        with Service() as service:
+            service.stop()
+            service.words = service.words[:-2]
+            service.start()
+            caller = service.caller(ADMIN)
+            self.addCleanup(caller.close)
+            self.assertEqual(caller.post("/v1/policies", ANY).fault, (403, "NoEdits", ""))
+            self.assertEqual(caller.ask(hour=9).status, 200)
+
+
+class Told(OverFolder):
+    """Metrics, and the log of decisions."""
+
+    more = ("--processes", "2", "--decisions", "ROOM/decisions")
+
+    def counts(self):
+        text = self.caller().get("/metrics").data.decode()
+        self.assertTrue(all(it.startswith("#") or len(it.split(" ")) == 2 for it in text.splitlines()))
+        return dict(it.rsplit(" ", 1) for it in text.splitlines() if not it.startswith("#"))
+
+    def test_each_decision_is_told(self):
+        callers = [self.caller() for _ in range(8)]
+        before = self.counts()
+        for at, caller in enumerate(callers * 5):
+            caller.post(EVALUATION, evaluation(hour=9 + at), X_Request_ID=f"it {at}")
+        self.assertEqual(callers[0].post(EVALUATION, "{").status, 400)
+        with open(os.path.join(self.service.room, "decisions"), encoding="utf-8") as it:
+            lines = [json.loads(line) for line in it]
+        self.assertEqual({it["request"]: it["decision"] for it in lines}, {f"it {at}": "allow" if at < 9 else "deny" for at in range(40)})
+        self.assertEqual({it["process"] for it in lines} - set(self.service.workers()), set())
+        wanted = {"principal": ALICE, "action": VIEW, "resource": PHOTO, "must": ["policy0"], "may": ["policy0"], "erring": {}, "position": 0}
+        self.assertEqual({key: lines[0][key] for key in wanted}, wanted)
+        after = self.counts()
+        grown = {key: float(after[key]) - float(before.get(key, 0)) for key in after}
+        self.assertEqual(grown['cedar_decisions_total{decision="allow"}'], 9)
+        self.assertEqual(grown['cedar_decisions_total{decision="deny"}'], 31)
+        self.assertEqual(grown['cedar_requests_total{call="evaluation",status="200"}'], 40)
+        self.assertEqual(grown['cedar_requests_total{call="evaluation",status="400"}'], 1)
+        self.assertEqual(after['cedar_request_seconds_bucket{le="+Inf"}'], after["cedar_request_seconds_count"])
+        self.assertEqual(after['cedar_processes{state="all"}'], "2")
+
+    def test_no_count_goes_back_where_a_process_ends(self):
+        caller = self.caller()
+        caller.ask(hour=9)
+        caller.close()
+        before = self.counts()
+        for pid in self.service.workers():
+            os.kill(pid, signal.SIGKILL)
+        self.service.wait()
+        key = 'cedar_requests_total{call="ask",status="200"}'
+        self.assertGreaterEqual(int(self.counts()[key]), int(before[key]))
+
+
+class FullLog(OverFolder):
+    more = ("--decisions", "/dev/full")
+
+    def test_no_decision_is_given_that_is_not_told(self):
+        for path, body in (("/v1/ask", question(hour=9)), (EVALUATION, evaluation(hour=9)), (EVALUATIONS, evaluation(hour=9))):
+            self.assertEqual(self.caller().post(path, body).fault, (503, "NoDecisionLog", ""))
+
+
+class Clients(OverFolder):
+    """Slow clients, and those that go."""
+
+    more = ("--seconds", "2")
+
+    def raw(self):
+        connection = socket.create_connection(("127.0.0.1", self.service.port), 20)
+        self.addCleanup(connection.close)
+        return connection
+
+    @staticmethod
+    def request(body, length=None):
+        return b"POST /v1/ask HTTP/1.1\r\nHost: x\r\nContent-Length: %d\r\n\r\n%s" % (len(body) if length is None else length, body)
+
+    def is_answered(self, connection):
+        data = connection.recv(65536)
+        self.assertIn(b"HTTP/1.1 200 ", data)
+        self.assertIn(b'"decision":"allow"', data)
+
+    def test_a_request_in_two_pieces(self):
+        """Wherever it is cut."""
+        whole = self.request(json.dumps(question(hour=9)).encode())
+        connection = self.raw()
+        for at in range(1, len(whole)):
+            connection.setsockopt(socket.IPPROTO_TCP, socket.TCP_NODELAY, 1)
+            connection.sendall(whole[:at])
+            time.sleep(0.001)
+            connection.sendall(whole[at:])
+            self.is_answered(connection)
+
+    def test_a_body_that_does_not_come(self):
+        connection = self.raw()
+        connection.sendall(self.request(b'{"principal": ', 500))
+        data = connection.recv(65536)
+        self.assertIn(b"HTTP/1.1 408 ", data)
+        self.assertIn(b'"TooSlow"', data)
+
+    def test_a_head_that_does_not_come(self):
+        for begun in (b"", b"POST /v1/ask HT", b"POST /v1/ask HTTP/1.1\r\nHost: x\r\n"):
+            connection, since = self.raw(), time.monotonic()
+            connection.sendall(begun)
+            self.assertEqual(connection.recv(1000), b"")
+            self.assertLess(time.monotonic() - since, 15)
+
+    def test_a_head_byte_by_byte(self):
+        connection, since = self.raw(), time.monotonic()
+        with self.assertRaises(OSError):
+            for byte in self.request(b"{}") * 10:
+                connection.sendall(bytes([byte]))
+                time.sleep(0.1)
+                if time.monotonic() - since > 15:
+                    return
+        self.assertEqual(self.caller().ask(hour=9).status, 200)
+
+    def test_others_do_not_wait_for_slow_ones(self):
+        slow = [self.raw() for _ in range(50)]
+        for it in slow:
+            it.sendall(self.request(b"{", 500))
+        for _ in range(20):
+            self.assertEqual(self.caller().ask(hour=9).status, 200)
+
+    def test_a_client_that_goes(self):
+        for at in range(50):
+            connection = self.raw()
+            connection.sendall(self.request(json.dumps(question(hour=9)).encode())[: 40 + at * 4])
+            connection.close()
+        self.assertEqual(self.caller().ask(hour=9).said["decision"], "allow")
+
+
+class Many(OverFolder):
+    def test_a_thousand_open_connections(self):
+        callers = []
+        for _ in range(1000):
+            callers.append(Caller(self.service.port))
+            callers[-1].connection.connect()
+        try:
+            for caller in callers:
+                self.assertEqual(caller.ask(hour=9).said["decision"], "allow")
+        finally:
+            for it in callers:
+                it.close()
+
+
+class Processes(unittest.TestCase):
+    """What the supervisor does."""
+
+    def setUp(self):
+        self.service = Service()
+        self.addCleanup(self.service.remove)
+        self.service.words += ["--processes", "2"]
+        self.service.start()
+
+    def decision(self, **context):
+        caller = self.service.caller()
+        try:
+            return caller.ask(BOB, **context).said["decision"]
+        finally:
+            caller.close()
+
+    def becomes(self, wanted, **context):
+        """All processes answer so, in time."""
+        until, found = time.monotonic() + 30, []
+        while time.monotonic() < until and found[-20:] != [wanted] * 20:
+            found.append(self.decision(**context))
+        self.assertEqual(found[-20:], [wanted] * 20)
+
+    def test_one_that_is_killed_begins_anew(self):
+        before = set(self.service.workers())
+        for pid in before:
+            os.kill(pid, signal.SIGKILL)
+        until = time.monotonic() + 30
+        while time.monotonic() < until and (len(self.service.workers()) < 2 or before & set(self.service.workers())):
+            time.sleep(0.05)
+        self.service.wait()
+        self.assertEqual(self.decision(), "deny")
+
+    def test_a_folder_that_is_read_again(self):
+        self.service.write("more.cedar", 'permit(principal == User::"bob", action, resource);')
+        for pid in self.service.workers():
+            os.kill(pid, signal.SIGKILL)
+        self.becomes("deny")
+        self.service.signal(signal.SIGHUP)
+        self.becomes("allow")
+        # (what can't be read isn't taken, and the service says so)
+        self.service.write("more.cedar", "permit(")
+        self.service.signal(signal.SIGHUP)
+        self.becomes("allow")
+        self.assertIn("more.cedar: Refused Text", self.service.log())
+
+    def test_none_is_dropped_where_the_folder_is_read_again(self):
+        ended, failed = threading.Event(), []
+
+        def asks():
+            while not ended.is_set():
+                try:
+                    self.decision(hour=9)
+                except OSError as why:
+                    failed.append(why)
+
+        threads = [threading.Thread(target=asks) for _ in range(4)]
+        for it in threads:
+            it.start()
+        self.service.signal(signal.SIGHUP)
+        time.sleep(4)
+        ended.set()
+        for it in threads:
+            it.join()
+        self.assertEqual(failed, [])
+
+    def test_folders_that_are_not_served(self):
+        for name, text, said in (("a.cedar", "permit(", "a.cedar: Refused Text"), ("a.json", '[{"uid": 1}]', "a.json: /0/uid an object is wanted")):
+            with Service() as service:
+                service.stop()
+                service.write(name, text)
+                with self.assertRaisesRegex(AssertionError, said):
+                    service.start()
+
+
+if __name__ == "__main__":
+    unittest.main()
