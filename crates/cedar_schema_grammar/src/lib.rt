@@ -1,0 +1,23 @@
+//! The syntax of schemas: tokens, the strict grammar, and the schema that a text is. Definitions, and the laws that they are one.
+#![tactic(auto)]
+
+ghost use Rattle.cedar_schema_grammar.specs.Laws.{TokensAreRead, TextsAreRead, OneSchema, GroupsAreTransitive, ParentsAreTransitive, CyclesAreFound};
+
+/// The reading functions give what the grammar says of tokens, and of a text, and nothing else.
+pub fn reading_gives_the_syntax()
+    ensures tokens { TokensAreRead }
+    ensures texts { TextsAreRead }
+{}
+
+/// A text says one thing at most, so that it is one schema at most.
+pub fn texts_are_one_schema()
+    ensures { OneSchema }
+{}
+
+/// What a schema says of groups and parents is what one or more edges lead to, and a common type is told to be in a cycle
+/// exactly where references lead from it to itself.
+pub fn hierarchies_are_transitive()
+    ensures groups { GroupsAreTransitive }
+    ensures parents { ParentsAreTransitive }
+    ensures cycles { CyclesAreFound }
+{}
