@@ -6,3 +6,6 @@ mod Texts
 mod Reaching
 mod SchemaRows
 mod ResolvedRows
+mod Pigeons
+mod Unfolding
+mod Whole

@@ -79,7 +79,7 @@ module _ {K : Type 0} (leads : K → K → Bool) where
       by (inr a) (inl b) join = by_way_of j ks x y a.0 (join j y m a.1 b)
       by (inr a) (inr b) join = by_way_of j ks x y a.0 b.1
 
-  reaches_on : (x y z : K) → Reaches (Edge leads) x y → Reaches (Edge leads) y z → Reaches (Edge leads) x z
+  pub reaches_on : (x y z : K) → Reaches (Edge leads) x y → Reaches (Edge leads) y z → Reaches (Edge leads) x z
   reaches_on x y z (edge e) r = further e r
   reaches_on x y z (further {b} e q) r = further e (reaches_on b y z q r)
 
@@ -97,7 +97,7 @@ module _ {K : Type 0} (leads : K → K → Bool) where
   edge_through [] x y e = e
   edge_through (k ∷ ks) x y e = kept k ks x y (edge_through ks x y e)
 
-  begins_among : (ks : List K) → LeadsFrom leads ks → (x y : K) → Reaches (Edge leads) x y → IsAmong x ks
+  pub begins_among : (ks : List K) → LeadsFrom leads ks → (x y : K) → Reaches (Edge leads) x y → IsAmong x ks
   begins_among ks f x y (edge e) = f x y e
   begins_among ks f x y (further {b} e r) = f x b e
 
@@ -170,7 +170,7 @@ references_are_found : (d : Declared) (l : Library) (m : Name) (o : Option Commo
 references_are_found d l m None e = absurd (cc e)
 references_are_found d l m (Some t) e = refl
 
-references_lead_from : (d : Declared) (l : Library) → LeadsFrom (refers d l) (map type_name d.types)
+pub references_lead_from : (d : Declared) (l : Library) → LeadsFrom (refers d l) (map type_name d.types)
 references_lead_from d l n m e = found_among type_name same_name name_is d.types n (references_are_found d l m (type_at d n) e)
 
 pub cycles_are_found : CyclesAreFound

@@ -1,5 +1,5 @@
 -- The schema that a text is. (Cedar language reference, "Schema".)
-use Rattle.std.specs.Prelude.{Bool, true, false, ◌||◌, ◌&&◌, List, [], ◌∷◌, ◌++◌, map, Option, Some, None, is_some, option_map}
+use Rattle.std.specs.Prelude.{Bool, true, false, ◌||◌, ◌&&◌, List, [], ◌∷◌, ◌++◌, map, Option, Some, None, is_some, option_map, unwrap_or}
 use Rattle.std.specs.List.{list_any, cons_option}
 use Rattle.cedar_language.specs.Uid.{Text, Name}
 use Rattle.cedar_language.specs.Order.{same_text, same_name}
@@ -91,7 +91,7 @@ type_may_reach d = leads_through (may_have_parent d) (types_with_parents d)
 
 abbrev pub entries_of : Option Action → List AppliesEntry
 entries_of None = []
-entries_of (Some a) = elim a.written.applies_to as (λ _. List AppliesEntry) [ None ↦ [] | Some es ↦ es ]
+entries_of (Some a) = unwrap_or a.written.applies_to []
 
 abbrev pub namespace_of : Option Action → Name
 namespace_of None = []

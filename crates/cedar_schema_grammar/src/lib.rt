@@ -1,7 +1,7 @@
 //! The syntax of schemas: tokens, the strict grammar, and the schema that a text is. Definitions, and the laws that they are one.
 #![tactic(auto)]
 
-ghost use Rattle.cedar_schema_grammar.specs.Laws.{TokensAreRead, TextsAreRead, OneSchema, GroupsAreTransitive, ParentsAreTransitive, CyclesAreFound};
+ghost use Rattle.cedar_schema_grammar.specs.Laws.{TokensAreRead, TextsAreRead, OneSchema, GroupsAreTransitive, ParentsAreTransitive, CyclesAreFound, CommonTypesUnfold, NothingIsLeftOut, ContextsAreWhole};
 
 /// The reading functions give what the grammar says of tokens, and of a text, and nothing else.
 pub fn reading_gives_the_syntax()
@@ -20,4 +20,12 @@ pub fn hierarchies_are_transitive()
     ensures groups { GroupsAreTransitive }
     ensures parents { ParentsAreTransitive }
     ensures cycles { CyclesAreFound }
+{}
+
+/// Of a text without faults each common type is the type that is written for it, and nothing is left out that is written of an
+/// entity type or of a context.
+pub fn schemas_say_all_that_is_written()
+    ensures common_types { CommonTypesUnfold }
+    ensures entity_types { NothingIsLeftOut }
+    ensures contexts { ContextsAreWhole }
 {}
