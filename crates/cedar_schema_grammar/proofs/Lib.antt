@@ -9,3 +9,4 @@ mod ResolvedRows
 mod Pigeons
 mod Unfolding
 mod Whole
+mod Conforming

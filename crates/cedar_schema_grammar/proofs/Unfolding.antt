@@ -39,7 +39,7 @@ or_else_is : {A : Type 0} (o p : Option A) (x : A) → or_else o p ≡ Some x �
 or_else_is (Some y) p x e = inl e
 or_else_is None p x e = inr e
 
-first_is : {A B : Type 0} (f : A → Option B) (xs : List A) (b : B) → first_of f xs ≡ Some b → (x : A) × (f x ≡ Some b)
+pub first_is : {A B : Type 0} (f : A → Option B) (xs : List A) (b : B) → first_of f xs ≡ Some b → (x : A) × (f x ≡ Some b)
 first_is f [] b e = absurd (cc e)
 first_is {A} f (x ∷ xs) b e = by (or_else_is (f x) (first_of f xs) b e) (first_is f xs b)
   where

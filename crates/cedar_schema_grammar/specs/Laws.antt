@@ -1,7 +1,7 @@
 -- What is proved of schemas' texts.
-use Rattle.std.specs.Prelude.{◌≡◌, ◌↔◌, true, List, [], ◌∷◌, length, Some, is_some}
+use Rattle.std.specs.Prelude.{◌≡◌, ◌↔◌, Bool, true, List, [], ◌∷◌, length, Some, is_some}
 use Rattle.cedar_language.specs.Uid.{Text, Name, Uid}
-use Rattle.cedar_language.specs.Facts.{Reaches}
+use Rattle.cedar_language.specs.Facts.{Facts, Reaches, DecidesReaches}
 use Rattle.cedar_grammar.specs.Steps.{◌>>=◌}
 use Rattle.cedar_typing.specs.Types.{CedarType, Records, Fields}
 use Rattle.cedar_typing.specs.Schema.{Schema}
@@ -68,3 +68,19 @@ ContextsAreWhole =
     (l : Library) (s : SchemaSyntax) (schema : Schema) → resolved l s ≡ Resolves schema → (u : Uid) (a : Action) (es : List AppliesEntry) (t : TypeSyntax) →
     action_at (declared s) u ≡ Some a → a.written.applies_to ≡ Some es → contexts_of es ≡ t ∷ [] →
     (fs : Fields) × (type_in (declared s) l a.namespace t ≡ Some (Records fs)) × (schema.context u ≡ fs)
+
+-- ---- what conforms to it
+
+-- where each direct parent is of a type that may stand there, each ancestor is
+abbrev pub AncestorsConform : Type 0
+AncestorsConform =
+    (l : Library) (d : Declared) (is_parent : Uid → Uid → Bool) (facts : Facts) → DecidesReaches (λ u w. is_parent u w ≡ true) facts →
+    ((u w : Uid) → is_parent u w ≡ true → (schema_of l d).may_reach u.type_name w.type_name ≡ true) →
+    (u w : Uid) → facts.reaches u w ≡ true → (schema_of l d).may_reach u.type_name w.type_name ≡ true
+
+-- where the direct parents of each declared action are its groups, its ancestors are those that the schema says
+abbrev pub ActionsConform : Type 0
+ActionsConform =
+    (l : Library) (d : Declared) (is_parent : Uid → Uid → Bool) (facts : Facts) → DecidesReaches (λ u w. is_parent u w ≡ true) facts →
+    ((u w : Uid) → (schema_of l d).is_action u ≡ true → is_parent u w ≡ is_in_group d u w) →
+    (u w : Uid) → (schema_of l d).is_action u ≡ true → facts.reaches u w ≡ (schema_of l d).action_reaches u w

@@ -1,7 +1,9 @@
 //! The syntax of schemas: tokens, the strict grammar, and the schema that a text is. Definitions, and the laws that they are one.
 #![tactic(auto)]
 
-ghost use Rattle.cedar_schema_grammar.specs.Laws.{TokensAreRead, TextsAreRead, OneSchema, GroupsAreTransitive, ParentsAreTransitive, CyclesAreFound, CommonTypesUnfold, NothingIsLeftOut, ContextsAreWhole};
+ghost use Rattle.cedar_schema_grammar.specs.Laws.{TokensAreRead, TextsAreRead, OneSchema, GroupsAreTransitive, ParentsAreTransitive, CyclesAreFound, CommonTypesUnfold, NothingIsLeftOut, ContextsAreWhole, AncestorsConform, ActionsConform};
+
+use cedar_typing::parents_are_enough;
 
 /// The reading functions give what the grammar says of tokens, and of a text, and nothing else.
 pub fn reading_gives_the_syntax()
@@ -29,3 +31,12 @@ pub fn schemas_say_all_that_is_written()
     ensures entity_types { NothingIsLeftOut }
     ensures contexts { ContextsAreWhole }
 {}
+
+/// Facts have the hierarchies that a schema asks for where each direct parent is of a type that may stand there, and those of each
+/// declared action are its groups.
+pub fn direct_parents_conform()
+    ensures ancestors { AncestorsConform }
+    ensures actions { ActionsConform }
+{
+    parents_are_enough();
+}
