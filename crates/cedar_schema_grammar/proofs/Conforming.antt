@@ -1,15 +1,15 @@
 -- What the hierarchies of a schema ask of facts, direct parents decide.
-use Rattle.std.proofs.Common.{◌≡◌, ◌⊎◌, inl, inr, Bool, true, false, ◌||◌, List, [], ◌∷◌, Option, Some, None, refl, sym, ap, ◌∙◌, subst}
-use Rattle.std.specs.Prelude.{IsTrue, is_some, option_map}
+use Rattle.std.proofs.Common.{◌≡◌, ◌⊎◌, inl, inr, Bool, true, false, List, [], ◌∷◌, Option, Some, None, refl, sym, ap, ◌∙◌, subst}
+use Rattle.std.specs.Prelude.{is_some, option_map}
 use Rattle.std.specs.List.{list_any, cons_option}
 use Rattle.cedar_language.specs.Uid.{Name, Uid}
 use Rattle.cedar_language.specs.Order.{same_uid}
-use Rattle.cedar_language.specs.Facts.{Facts, Reaches, edge, further, DecidesReaches}
+use Rattle.cedar_language.specs.Facts.{Reaches, edge, further}
 use Rattle.cedar_language.proofs.Booleans.{or_cases}
-use Rattle.cedar_typing.proofs.Sameness.{name_is, uid_is}
+use Rattle.cedar_typing.proofs.Sameness.{uid_is}
 use Rattle.cedar_typing.specs.Deciding.{ParentsAreEnough}
 use Rattle.cedar_schema_grammar.specs.Syntax.{ActionRef}
-use Rattle.cedar_schema_grammar.specs.Declared.{Library, Action, Declared, action_uid, action_at, first_of, places, type_of_ref, action_named}
+use Rattle.cedar_schema_grammar.specs.Declared.{Library, Action, Declared, action_uid, action_at, places, type_of_ref, action_named}
 use Rattle.cedar_schema_grammar.specs.Reaching.{Edge}
 use Rattle.cedar_schema_grammar.specs.Faults.{found_groups, groups_of, is_in_group}
 use Rattle.cedar_schema_grammar.specs.Resolving.{may_have_parent, schema_of}
