@@ -10,3 +10,4 @@ mod Pigeons
 mod Unfolding
 mod Whole
 mod Conforming
+mod Environments

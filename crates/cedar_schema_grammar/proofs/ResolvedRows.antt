@@ -6,6 +6,8 @@ use Rattle.cedar_grammar.specs.Steps.{◌>>=◌}
 use Rattle.cedar_typing.specs.Types.{Required, Optional, Longs, Strings, Entities, Sets, Records, Fields, no_fields, a_field}
 use Rattle.cedar_typing.specs.Schema.{EntityShape, Schema}
 use Rattle.cedar_typing.proofs.RowSchemas.{group, account_type, user, album, photo, color, action_type, uid, view, edit, paint, read_only, photos, app_user, app_doc, app_action, other_user, other_action}
+use Rattle.cedar_schema_grammar.specs.Declared.{declared}
+use Rattle.cedar_schema_grammar.specs.Environments.{Application, application, applications_of}
 use Rattle.cedar_schema_grammar.specs.Resolving.{Resolved, Resolves, Faulty, resolved}
 use Rattle.cedar_schema_grammar.proofs.SchemaRows.{syntax, library}
 
@@ -78,6 +80,17 @@ contexts_of_photos : asked photo_text (all_of uids (λ s u. s.context u)) ≡ So
 unfolding asked
 contexts_of_photos = refl
 
+-- the environments by which the rows of types are typed
+unfoldable applications : List ℕ → Option (List Application)
+unfolding syntax
+applications cs = syntax cs >>= λ s. Some (applications_of (declared s) (declared s).actions)
+
+environments_of_photos :
+    applications photo_text
+    ≡ Some (application view user photo ∷ application view user album ∷ application edit user photo ∷ application paint user color ∷ [])
+unfolding applications
+environments_of_photos = refl
+
 -- ---- the schema of documents, in two namespaces
 
 abbrev doc_text : List ℕ
@@ -110,6 +123,15 @@ users_read = refl
 other_users_read : asked doc_text (all_of doc_actions (λ s u. s.applies u other_user app_doc)) ≡ Some (false ∷ true ∷ false ∷ [])
 unfolding asked
 other_users_read = refl
+
+environments_of_docs :
+    applications doc_text
+    ≡ Some
+    (application (uid app_action (codes "read")) app_user app_doc
+    ∷ application (uid other_action (codes "read")) app_user app_doc
+    ∷ application (uid other_action (codes "read")) other_user app_doc ∷ [])
+unfolding applications
+environments_of_docs = refl
 
 -- ---- smaller ones
 

@@ -187,7 +187,7 @@ module _ (d : Declared) (l : Library) (common : CommonType → Option CedarType)
 
 -- ---- what a common type stands for
 
-among_any : (m : Name) (ks : List Name) → IsAmong m ks → list_any (same_name m) ks ≡ true
+pub among_any : (m : Name) (ks : List Name) → IsAmong m ks → list_any (same_name m) ks ≡ true
 among_any m [] a = absurd a
 among_any m (k ∷ ks) (inl e) = or_left (same_name m k) (list_any (same_name m) ks) (subst (λ x. same_name m x ≡ true) e (name_same m))
 among_any m (k ∷ ks) (inr a) = or_right (same_name m k) (list_any (same_name m) ks) (among_any m ks a)

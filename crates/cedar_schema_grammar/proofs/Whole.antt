@@ -27,7 +27,7 @@ each_clean f [] x m e = absurd m
 each_clean f (y ∷ ys) x (inl g) e = ap f g ∙ first_empty (f y) (faults_of_all f ys) e
 each_clean f (y ∷ ys) x (inr m) e = each_clean f ys x m (second_empty (f y) (faults_of_all f ys) e)
 
-of_map : {A K : Type 0} (key : A → K) (xs : List A) (k : K) → IsAmong k (map key xs) → (x : A) × IsAmong x xs × (k ≡ key x)
+pub of_map : {A K : Type 0} (key : A → K) (xs : List A) (k : K) → IsAmong k (map key xs) → (x : A) × IsAmong x xs × (k ≡ key x)
 of_map key [] k m = absurd m
 of_map key (x ∷ xs) k (inl e) = (x, inl refl, e)
 of_map key (x ∷ xs) k (inr m) = let r = of_map key xs k m in (r.0, inr r.1, r.2)

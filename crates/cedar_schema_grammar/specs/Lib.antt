@@ -8,3 +8,4 @@ pub mod Written
 pub mod Faults
 pub mod Resolving
 pub mod Laws
+pub mod Environments

@@ -1,6 +1,7 @@
 //! The syntax of schemas: tokens, the strict grammar, and the schema that a text is. Definitions, and the laws that they are one.
 #![tactic(auto)]
 
+ghost use Rattle.cedar_schema_grammar.specs.Environments.{EnvironmentsAreListed};
 ghost use Rattle.cedar_schema_grammar.specs.Laws.{TokensAreRead, TextsAreRead, OneSchema, GroupsAreTransitive, ParentsAreTransitive, CyclesAreFound, CommonTypesUnfold, NothingIsLeftOut, ContextsAreWhole, AncestorsConform, ActionsConform};
 
 use cedar_typing::parents_are_enough;
@@ -40,3 +41,9 @@ pub fn direct_parents_conform()
 {
     parents_are_enough();
 }
+
+/// The environments of a schema that a text is are finitely many, but for slots: those of the actions and the types that they
+/// apply to.
+pub fn environments_are_listed()
+    ensures { EnvironmentsAreListed }
+{}
