@@ -44,7 +44,8 @@ CyclesAreFound = (l : Library) (d : Declared) (n m : Name) → (type_reaches d l
 abbrev pub CommonTypesUnfold : Type 0
 CommonTypesUnfold =
     (l : Library) (s : SchemaSyntax) (schema : Schema) → resolved l s ≡ Resolves schema → (n : Name) (t : CommonType) → type_at (declared s) n ≡ Some t →
-    (x : CedarType) × (unfolded (length (declared s).types) (declared s) l t ≡ Some x) × (type_in (declared s) l t.namespace t.type ≡ Some x)
+    (x : CedarType) × (unfolded (length (declared s).types) (declared s) l t ≡ Some x) ×
+    (type_in (declared s) l t.namespace t.type ≡ Some x)
 
 -- a record type that is written has its fields, and what else is written has its type
 abbrev pub IsWhole : Declared → Library → Name → TypeSyntax → Type 0
@@ -65,8 +66,9 @@ NothingIsLeftOut =
 -- nor of what an action applies to: its context has the fields that are written
 abbrev pub ContextsAreWhole : Type 0
 ContextsAreWhole =
-    (l : Library) (s : SchemaSyntax) (schema : Schema) → resolved l s ≡ Resolves schema → (u : Uid) (a : Action) (es : List AppliesEntry) (t : TypeSyntax) →
-    action_at (declared s) u ≡ Some a → a.written.applies_to ≡ Some es → contexts_of es ≡ t ∷ [] →
+    (l : Library) (s : SchemaSyntax) (schema : Schema) → resolved l s ≡ Resolves schema →
+    (u : Uid) (a : Action) (es : List AppliesEntry) (t : TypeSyntax) → action_at (declared s) u ≡ Some a → a.written.applies_to ≡ Some es →
+    contexts_of es ≡ t ∷ [] →
     (fs : Fields) × (type_in (declared s) l a.namespace t ≡ Some (Records fs)) × (schema.context u ≡ fs)
 
 -- ---- what conforms to it

@@ -13,7 +13,8 @@ use Rattle.cedar_partial_evaluation.specs.Filling.{IsFilling, request_filled}
 use Rattle.cedar_partial_evaluation.specs.Early.{judged_filled}
 
 -- values that fill the question, and make a request of the environment of it
-pub record IsConformingFilling (schema : Schema) (may : SlotTypes) (facts : Facts) (q : Question) (slots : Slots) (filling : Told) (known : Known) : Type 0 where
+pub record IsConformingFilling (schema : Schema) (may : SlotTypes) (facts : Facts) (q : Question) (slots : Slots) (filling : Told) (known : Known)
+    : Type 0 where
   pub fills : IsFilling facts q filling known
   pub environment : Environment
   pub is_environment : IsEnvironment schema may environment
