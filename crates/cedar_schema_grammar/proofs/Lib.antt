@@ -11,3 +11,4 @@ mod Unfolding
 mod Whole
 mod Conforming
 mod Environments
+mod VerdictRows

@@ -25,7 +25,7 @@ all_of xs f s = map (f s) xs
 
 -- ---- the schema of photos
 
-abbrev photo_text : List ℕ
+abbrev pub photo_text : List ℕ
 photo_text =
     codes
     "entity Group; entity Account { active: Bool, limit?: Long }; entity User in [Group] { name: String, age?: Long, manager?: User, account: Account, roles: Set<String>, address: { street: String, zip?: String } } tags String; entity Album in [Album]; entity Photo in [Album] { owner: User, private: Bool, title?: String, labels: Set<String>, size: Long }; entity Color enum [\"red\", \"green\"]; action readOnly; action view in [readOnly] appliesTo { principal: [User], resource: [Photo, Album], context: { authenticated: Bool, ip?: ipaddr, hour: Long } }; action edit appliesTo { principal: [User], resource: [Photo], context: { authenticated: Bool, mfa?: Bool, now: datetime, cost: decimal } }; action paint appliesTo { principal: [User], resource: [Color], context: {} };"
@@ -93,7 +93,7 @@ environments_of_photos = refl
 
 -- ---- the schema of documents, in two namespaces
 
-abbrev doc_text : List ℕ
+abbrev pub doc_text : List ℕ
 doc_text =
     codes
     "namespace App { type Id = String; entity User { id: Id, mail?: __cedar::String }; entity Doc { owner: User }; action read appliesTo { principal: User, resource: Doc }; } namespace Other { entity User; action read appliesTo { principal: [App::User, User], resource: App::Doc }; }"
