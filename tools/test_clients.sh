@@ -35,6 +35,11 @@ try() {
     fi
 }
 
+# What hangs is a failure, and not the end of a gate's time.
+limited() {
+    timeout -k 10 "${SECONDS_OF_A_PART:-600}" "$@"
+}
+
 # The text of the Nth block of a page that is of this language, or of none.
 block() {
     awk -v nth="$2" -v head="\`\`\`${3:-}" '/^```/ { if (inside) { inside = on = 0 } else { inside = 1; on = $0 == head && ++n == nth } next } on' "$1"
@@ -129,7 +134,7 @@ misuse() {
 }
 
 memcheck() {
-    valgrind -q --leak-check=full --show-leak-kinds=all --error-exitcode=99 --main-stacksize=33554432 "$@"
+    limited valgrind -q --leak-check=full --show-leak-kinds=all --error-exitcode=99 --main-stacksize=33554432 "$@"
 }
 
 # One session without a bad access or a leak, and with the lines that the program writes.
@@ -143,7 +148,7 @@ clean_session() {
 }
 
 under_valgrind() {
-    export -f clean_session memcheck
+    export -f clean_session memcheck limited
     export room
     # shellcheck disable=SC2016
     find crates/cedar_main/cases -name '*.stdin' -size -20001c -print0 | xargs -0 -P "$(nproc)" -n 1 bash -c 'clean_session "$1"' '' || return 1
@@ -160,7 +165,7 @@ for it in python3 /usr/bin/python3; do
 done
 
 python_tests() {
-    (cd clients/python && PATH="$room/bin:$PATH" CEDAR_LIBRARY="$folder/lib/libcedar.so" "$python" -B -m unittest -q "${@/#/tests.}")
+    (cd clients/python && PATH="$room/bin:$PATH" CEDAR_LIBRARY="$folder/lib/libcedar.so" limited "$python" -B -m unittest -q "${@/#/tests.}")
 }
 
 # Without a network, and nothing is left in the sources; with the shared object inside nothing has to name it.
@@ -198,7 +203,7 @@ copies() {
 
 rust_tests() {
     CEDAR_ARCHIVE="$folder/lib/libcedar.a" RUSTFLAGS='-D warnings' \
-        cargo test -q --offline --manifest-path clients/rust/Cargo.toml --target-dir "$room/target"
+        limited cargo test -q --offline --manifest-path clients/rust/Cargo.toml --target-dir "$room/target"
 }
 
 [ -f "$folder/lib/libcedar.a" ] || { echo "$folder isn't there: python3 tools/archive.py makes it" && exit 1; }
@@ -216,12 +221,12 @@ if has cc 'the examples in C, and all that needs the shared object'; then
     has c++ 'the header in C++' && try 'the header in C++' as_cplusplus
     try 'serve.c answers a line each' serves
     try 'cost.c is answered' costs
-    try 'what a caller does wrong is a status' misuse
+    try 'what a caller does wrong is a status' misuse limited
     try 'threads with the stacks of cedar.h hold the deepest texts' stacks
     if has python3 'the sessions by a handle, and the client in Python'; then
-        try 'sessions by a handle' python3 tools/cases.py --program "$room/frames"
-        try "sessions by a handle that knows Cedar's extension types" typed_sessions
-        try 'sessions by a handle, with requests for memory refused' python3 tools/refuse_growths.py --program "$room/frames" --seconds "${SECONDS_OF_REFUSING:-30}"
+        try 'sessions by a handle' limited python3 tools/cases.py --program "$room/frames"
+        try "sessions by a handle that knows Cedar's extension types" limited typed_sessions
+        try 'sessions by a handle, with requests for memory refused' limited python3 tools/refuse_growths.py --program "$room/frames" --seconds "${SECONDS_OF_REFUSING:-30}"
         try 'values in Python are read back' python_tests test_values
         try 'what copies hold' python_tests test_held
         if "$python" -m pip --version > /dev/null 2>&1; then
@@ -245,7 +250,7 @@ if has cc 'the examples in C, and all that needs the shared object'; then
     if has valgrind 'bad accesses and leaks, races of threads'; then
         try 'sessions by a handle under valgrind' under_valgrind
         try 'what a caller does wrong, under valgrind' misuse memcheck
-        try 'several threads at one handle, under helgrind' valgrind -q --tool=helgrind --error-exitcode=99 "$room/misuse" threads
+        try 'several threads at one handle, under helgrind' limited valgrind -q --tool=helgrind --error-exitcode=99 "$room/misuse" threads
     fi
     has cargo 'the client in Rust' && try 'the client in Rust' rust_tests
 fi

@@ -5,8 +5,8 @@ import ctypes
 import os
 import threading
 import warnings
-from concurrent.futures import ThreadPoolExecutor
-from typing import Callable, Optional, TypeVar
+from queue import SimpleQueue
+from typing import Callable, Optional, Tuple, TypeVar, cast
 
 from .commands import DEPTH, Commands
 from .errors import BadValue, Busy, CedarError, NoCommand, NoLibrary, NoMemory, NotOpen, OtherThread, TooLong
@@ -21,6 +21,10 @@ _OWN = os.path.join(os.path.dirname(os.path.abspath(__file__)), "libcedar.so")
 _STACKS = threading.Lock()
 
 T = TypeVar("T")
+
+# What a thread has done, or why not; and what it is to do, with its arguments, and where it leaves what comes of it.
+_Done = Tuple[object, Optional[BaseException]]
+_Wanted = Tuple[Callable[..., object], Tuple[object, ...], "SimpleQueue[_Done]"]
 
 
 def _library(path: Optional[str]) -> ctypes.CDLL:
@@ -133,55 +137,90 @@ class Session(Commands):
             warnings.warn(f"{self!r} was dropped on another thread than its own, and leaks", ResourceWarning, source=self)
 
 
+class _Thread:
+    """A thread of its own, which does one thing after another. Whoever waits for one may be broken off by an exception of a signal handler: the
+    queues of C stay whole then, as locks of `threading.Condition` don't, and what was waited for reaches nobody else."""
+
+    def __init__(self, stack: int) -> None:
+        self._wanted: "SimpleQueue[Optional[_Wanted]]" = SimpleQueue()
+        self._has_ended = False
+        thread = threading.Thread(target=_do_each, args=(self._wanted,), name="cedar", daemon=True)
+        with _STACKS:
+            before = threading.stack_size(stack)
+            try:
+                thread.start()
+            finally:
+                threading.stack_size(before)
+
+    def do(self, what: Callable[..., T], *given: object) -> T:
+        """Does it there, and returns or raises what comes of it."""
+        if self._has_ended:
+            raise NotOpen("the session is closed")
+        done: "SimpleQueue[_Done]" = SimpleQueue()
+        self._wanted.put((what, given, done))
+        made, why = done.get()
+        if why is not None:
+            raise why
+        return cast(T, made)
+
+    def end(self) -> None:
+        """Ends it behind what it has to do. Doesn't wait."""
+        self._has_ended = True
+        self._wanted.put(None)
+
+
+def _do_each(wanted: "SimpleQueue[Optional[_Wanted]]") -> None:
+    for what, given, done in iter(wanted.get, None):
+        try:
+            done.put((what(*given), None))
+        except BaseException as why:
+            done.put((None, why))
+        # (nothing of it is kept while the thread waits)
+        del what, given, done
+
+
 class SessionThread(Commands):
     """A session on a thread of its own, which has the stack for its limit of depth. Any thread may use it, one at a time."""
 
     def __init__(self, depth: int = DEPTH, library: Optional[str] = None):
         super().__init__()
-        self.depth, self._process, self._thread = depth, os.getpid(), ThreadPoolExecutor(1, "cedar")
+        self.depth, self._process = depth, os.getpid()
         # (the system takes whole pages)
         stack = -(-stack_for(depth) // 65536) * 65536
         try:
-            with _STACKS:
-                before = threading.stack_size(stack)
-                try:
-                    opening = self._thread.submit(Session, depth, library)
-                finally:
-                    threading.stack_size(before)
-            self._session = opening.result()
+            self._thread = _Thread(stack)
         except (RuntimeError, ValueError) as why:
-            raise why if isinstance(why, CedarError) else BadValue(f"no thread has a stack of {stack} bytes") from why
+            raise BadValue(f"no thread has a stack of {stack} bytes") from why
+        try:
+            self._session = self._thread.do(Session, depth, library)
+        except BaseException:
+            self._thread.end()
+            raise
 
     def last_line(self) -> str:
         """As Session.last_line."""
         self._check()
-        return self._alone(lambda: self._there(self._session.last_line))
+        return self._alone(lambda: self._thread.do(self._session.last_line))
 
     def _check(self) -> None:
         if os.getpid() != self._process:
             raise OtherThread("the session stays in the process that opened it")
 
-    def _there(self, do: Callable[..., T], *given: object) -> T:
-        try:
-            doing = self._thread.submit(do, *given)
-        except RuntimeError as why:
-            raise NotOpen("the session is closed") from why
-        return doing.result()
-
     def _exchange(self, verb: str, body: bytes) -> bytes:
-        return self._there(self._session._exchange, verb, body)
+        return self._thread.do(self._session._exchange, verb, body)
 
     def _end(self) -> None:
-        try:
-            self._there(self._session._end)
-        except NotOpen:
+        # (a forked process has no such thread, and nothing to give back)
+        if os.getpid() != self._process or self._thread._has_ended:
             return
-        self._thread.shutdown(wait=False)
+        self._thread.do(self._session._end)
+        self._thread.end()
 
     def __del__(self) -> None:
-        if getattr(self, "_session", None) is not None and os.getpid() == self._process:
-            try:
-                self._thread.submit(self._session._end)
-            except RuntimeError:
-                return
-            self._thread.shutdown(wait=False)
+        thread = getattr(self, "_thread", None)
+        if thread is None or thread._has_ended or os.getpid() != self._process:
+            return
+        session = getattr(self, "_session", None)
+        if session is not None:
+            thread._wanted.put((session._end, (), SimpleQueue()))
+        thread.end()

@@ -1,10 +1,12 @@
 """Tests of the sessions: CEDAR_LIBRARY names the shared object, and cedar_session is the program that the path finds."""
 
 import copy
+import faulthandler
 import gc
 import os
 import pickle
 import signal
+import sys
 import threading
 import unittest
 import warnings
@@ -196,6 +198,49 @@ class Interrupted:
                 pass
             session.close()
         self.assertGreater(interrupted, 20)
+
+    def test_an_exception_at_any_line(self):
+        """Wherever in a command it comes, what is asked next gets its own answer or none, and nothing waits for ever. Not between
+        two steps that call nothing, where no signal is taken, as in `_alone` around its call."""
+
+        class Late(Exception):
+            pass
+
+        def broken_off(session, at):
+            left = at
+
+            def trace(frame, event, _):
+                nonlocal left
+                if event in ("line", "return") and frame.f_code.co_name != "_alone":
+                    left -= 1
+                    if left == 0:
+                        sys.settrace(None)
+                        raise Late
+                return trace
+
+            sys.settrace(trace)
+            try:
+                ask_all(session, ALICE)
+            except Late:
+                return True
+            finally:
+                sys.settrace(None)
+            return False
+
+        self.addCleanup(sys.settrace, sys.gettrace())
+        self.addCleanup(faulthandler.cancel_dump_traceback_later)
+        faulthandler.dump_traceback_later(120, exit=True)
+        session, at = self.opened(), 1
+        session.load('permit(principal == User::"alice", action, resource);')
+        while broken_off(session, at):
+            at += 1
+            try:
+                self.assertEqual(ask_all(session, MALLORY).decision, Decision.DENY)
+            except cedar.NotOpen:
+                session = self.opened()
+                session.load('permit(principal == User::"alice", action, resource);')
+        session.close()
+        self.assertGreater(at, 50)
 
 
 class AnyThread:

@@ -1,5 +1,5 @@
 // Numbers, names and entities.
-ghost use Rattle.std.specs.Prelude.{◌≡◌, ◌≢◌, ◌<◌, ◌≤◌, ◌^◌, ◌++◌, [], ◌∷◌, ℕ, Bool, suc, IfOk, IfNone, IfSome, codes, cond, pos, neg_ℤ};
+ghost use Rattle.std.specs.Prelude.{◌≡◌, ◌≢◌, ◌<◌, ◌≤◌, ◌^◌, ℕ, Bool, suc, IfOk, IfNone, IfSome, codes, cond, pos, neg_ℤ};
 ghost use Rattle.cedar_language.specs.Tree as tree;
 ghost use Rattle.cedar_grammar.specs.Build.{long};
 ghost use Rattle.cedar_literals.specs.Literals.{literal_of};
@@ -11,13 +11,16 @@ ghost use Rattle.cedar_trees.specs.Bare.{bare};
 ghost use Rattle.cedar_data.specs.Data.{ReadsData, ReadsPathTo, ReadsKey};
 ghost use Rattle.cedar_data.specs.Takes.{Takes};
 
+use crate::names::name_of;
 use crate::reader::Reader;
 use crate::texts::Sign;
+use crate::type_names::TypeNames;
 use crate::unread::Unread;
 use cedar_literals::literals::Literal;
 use cedar_literals::uids::{Eid, EntityType, EntityUID};
-use cedar_names::identifiers::{Id, is_normalized_ident};
-use cedar_names::names::{InternalName, Name};
+use cedar_names::comparing::is_same;
+use cedar_names::identifiers::is_normalized_ident;
+use cedar_names::names::Name;
 use cedar_trees::expr::Expr;
 use std::alloc::{AllocError, Global};
 use std::rc::{Rc, RcStr};
@@ -69,33 +72,17 @@ fn minus(number: u64) -> Option<Literal>
     }
 }
 
-// The identifier of this text; refused for memory alone.
-fn id_of(alloc: Global, text: &str) -> Result<Id, AllocError>
-    requires { IsUnreservedId text.now }
-    ensures { IfOk result (λ id. id ≡ text.now) }
-{
-    Ok(Id::new_unchecked(RcStr::from_str(alloc, text)?))
-}
-
-// The name of these identifiers, none of which is reserved.
-fn name_of(alloc: Global, namespace: Vec<Id>, basename: Id) -> Result<Name, Unread>
-    ensures { IfOk result (λ name. name ≡ namespace.items ++ basename ∷ []) }
-{
-    match Name::try_from(InternalName::new(alloc, basename, namespace, None)?) {
-        Ok(name) => Ok(name),
-        Err(_) => Err(Unread::Other),
-    }
-}
-
 /// The Boolean that is so written; none where none is.
 pub fn boolean(word: &str) -> Option<bool>
     ensures written { IfSome result (λ value. word.now ≡ cond value (codes "true") (codes "false")) }
     ensures none { IfNone result ((value : Bool) → word.now ≢ cond value (codes "true") (codes "false")) }
 {
-    match word {
-        "true" => Some(true),
-        "false" => Some(false),
-        _ => None,
+    if is_same(word, "true") {
+        Some(true)
+    } else if is_same(word, "false") {
+        Some(false)
+    } else {
+        None
     }
 }
 
@@ -169,22 +156,28 @@ impl<'t> Reader<'t> {
     }
 
     /// Takes what follows the first identifier of a path, with the separator before the string of an
-    /// entity.
-    pub fn path(&mut self, alloc: Global, first: &str) -> Result<Path, Unread>
+    /// entity. The names of types are shared with those that were read before.
+    pub fn path(
+        &mut self,
+        alloc: Global,
+        types: &mut TypeNames,
+        first: &'t str,
+    ) -> Result<Path, Unread>
         requires { IsUnreservedId first.now }
         ensures { IfOk result (λ path. ReadsPathTo first.now self.old path self.new) }
     {
         let mut namespace = Vec::new(alloc);
-        let mut last = id_of(alloc, first)?;
+        let mut last = first;
         'path: while self.eat_separator() {
             if self.next_byte() == b'"' {
-                return Ok(Path::EntityType(name_of(alloc, namespace, last)?));
+                let name = types.name(alloc, &namespace, last)?;
+                return Ok(Path::EntityType(name));
             }
             namespace.push(last)?;
             let next = self.identifier()?;
-            let id = id_of(alloc, next)?;
-            last = id;
+            last = next;
         }
-        Ok(Path::Called(name_of(alloc, namespace, last)?))
+        let name = name_of(alloc, &namespace, last)?;
+        Ok(Path::Called(name))
     }
 }

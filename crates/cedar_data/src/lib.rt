@@ -4,10 +4,13 @@
 
 mod descent;
 mod leaves;
+mod names;
 mod reader;
 mod reading;
 mod runs;
 mod texts;
+mod type_names;
 mod unread;
 
 pub use reading::read_data;
+pub use type_names::TypeNames;

@@ -57,9 +57,12 @@ pub(crate) fn touched_below(
     index.that_lead_to(alloc, &edited, most_of_few(map.len()))
 }
 
+// One in so many is few at most: where more are touched, a look at all costs less than to find and close those alone.
+const FEW: usize = 3;
+
 // How many of so many entities are few at most.
 fn most_of_few(entities: usize) -> usize {
-    (entities / 16).max(8)
+    (entities / FEW).max(8)
 }
 
 /// Whether an edit that touches so many entities is one of few among these: then their ancestors alone are closed

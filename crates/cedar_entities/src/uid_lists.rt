@@ -58,13 +58,15 @@ impl EntityUIDs {
         EntityUIDs { alloc, uids }
     }
 
-    /// The uids of a list, in any order and any number of times. It is sorted once; refused for memory alone.
+    /// The uids of a list, in any order and any number of times. It is sorted once, and its room to grow given back;
+    /// refused for memory alone.
     pub fn from_vec(alloc: Global, uids: Vec<EntityUID>) -> Result<EntityUIDs, AllocError>
         ensures { IfOk result (λ made. made ≡ set.from_list uids.items) }
     {
         let mut uids = uids;
         uids.sort()?;
         uids.dedup();
+        uids.shrink_to_fit();
         Ok(EntityUIDs::of_rising(alloc, uids))
     }
 }

@@ -3,7 +3,7 @@
 use Rattle.std.proofs.Common.{◌≡◌, ◌+◌, ◌≤◌, ◌∙◌, ap, sym, arith}
 use Rattle.std.specs.Rc.{rc_str_bytes}
 use Rattle.cedar_grammar.specs.Build.{unary}
-use Rattle.cedar_language.specs.Tree.{Boolean, GetAttr, Tree, Var}
+use Rattle.cedar_language.specs.Tree.{Boolean, Long, GetAttr, Tree, Var}
 use Rattle.cedar_language.specs.Value.{Plain}
 use Rattle.cedar_literals.specs.Operators.{binary_operator_of}
 use Rattle.cedar_literals.specs.Variables.{variable_of}
@@ -35,3 +35,8 @@ pub glance_two-returns : goal.glance_two-returns
 glance_two-returns g t c =
     two_tells c.args.self.now c.args.depth (binary_operator_of c.args.op) (bare c.args.left.now) (bare c.args.right.now) (value_lent c.in_ok-first.first) (value_lent c.in_ok-second.second) (Plain (Boolean c.in_ok-told.told))
     c.in_ok-first.ensures c.in_ok-second.ensures c.in_ok-told.ensures
+
+pub glance_long-returns : goal.glance_long-returns
+glance_long-returns g t c =
+    two_tells c.args.self.now c.args.depth (binary_operator_of c.args.op) (bare c.args.left.now) (bare c.args.right.now) (value_lent c.in_ok-first.first) (value_lent c.in_ok-second.second) (Plain (Long c.in_ok-told.told))
+    c.in_ok-first.ensures c.in_ok-second.ensures (λ facts has. c.in_ok-told.ensures facts)

@@ -1,0 +1,12 @@
+-- The names that bodies may call are those that are made; the types alone change.
+use Rattle.std.proofs.Common.{subst}
+use Rattle.std.specs.Prelude.{IfOk, IfSome}
+use Rattle.cedar_data.specs.Data.{IsDataText}
+use Rattle.cedar_session.proofs.called_names.CalledNames.read_plain.Goals as goal
+
+pub returns-clause-called : goal.returns-clause-called
+returns-clause-called c = λ functions are. record { bodies = are.bodies; policies = are.policies }
+
+pub returns-clause-data : goal.returns-clause-data
+returns-clause-data c = λ functions are.
+    subst (λ names. IfOk c.read_data.result (λ found. IfSome found (IsDataText names c.args.depth c.args.text.now))) (are.bodies c.unwrap-styles.result.now c.unwrap-styles.ensures) c.read_data.ensures
