@@ -141,7 +141,7 @@ memcheck() {
 clean_session() {
     local written
     written=$(mktemp -p "$room")
-    memcheck "$room/frames" < "$1" > "$written"
+    memcheck "$room/frames" "${@:2}" < "$1" > "$written"
     [ $? -ne 99 ] && diff "${1%.stdin}.stdout" "$written" && return
     echo "$1"
     return 1
@@ -152,7 +152,8 @@ under_valgrind() {
     export room
     # shellcheck disable=SC2016
     find crates/cedar_main/cases -name '*.stdin' -size -20001c -print0 | xargs -0 -P "$(nproc)" -n 1 bash -c 'clean_session "$1"' '' || return 1
-    serves memcheck && memcheck "$room/frames" session < crates/cedar_cli/sessions/ip-on-literals.stdin | diff crates/cedar_cli/sessions/ip-on-literals.stdout -
+    clean_session crates/cedar_cli/sessions/ip-on-literals.stdin session || return 1
+    serves memcheck
 }
 
 # One with psycopg, where there is one.
