@@ -7,7 +7,9 @@ ghost use Rattle.cedar_session.specs.Settings.{setting_with};
 
 use crate::{DEVICE, FINE, NO_MEMORY};
 use cedar_authoring::DEPTH;
-use cedar_session::{End, ExtensionFunctionObject, Extensions, RunError, Session, Watched, run_buffered};
+use cedar_session::{
+    End, ExtensionFunctionObject, Extensions, RunError, Session, Watched, run_buffered,
+};
 use std::alloc::Global;
 use std::io::{BufRead, Write};
 

@@ -1,4 +1,4 @@
--- Rests on what `run` says of a new session, by the status that tells how it ended.
+-- Rests on what `run_buffered` says of a new session, by the status that tells how it ended.
 use Rattle.std.proofs.Common.{sym, ◌∙◌}
 use Rattle.cedar_session.proofs.Statuses.{at_end, at_fault, at_failure, answers, fails_to_read, fails_to_write}
 use Rattle.cedar_cli.proofs.answering.answer_frames.Goals as goal
