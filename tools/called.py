@@ -6,7 +6,7 @@ answer is a `Result` has to be reached, by names, from a program (its sessions a
 rows. Names alone are read: a call `.name(..)` reaches each method of that name in the crates below, `Type::name` that of the type,
 and `name(..)` the functions of the file and those that it imports; of a type that is reached so are its impls of traits that
 are called without a name. Clauses of contracts call nothing, and laws, which answer nothing, needn't be called;
-nor need calls of the rooms that no program has yet (UNUSED).
+nor need those that a caller makes who has more than any program here (UNUSED).
 
 Prints a line for each that nothing reaches, and ends with status 1 where there is any."""
 
@@ -19,8 +19,8 @@ sys.dont_write_bytecode = True
 import rooms
 
 CALLERS = ["cedar_main", "cedar_cli", "cedar_c", "cedar_examples", "cedar_law_examples", "cedar_rows", "cedar_parser_rows", "cedar_evaluation_rows", "cedar_layer_rows"]
-# Rooms that no program has yet, whose calls needn't be made.
-UNUSED = ["cedar_scalars", "cedar_extension_types"]
+# A caller makes its table of these who has functions beside Cedar's own; no program here has.
+UNUSED = {("cedar_extension_types", "standard_extensions")}
 # The calls of traits that no text names.
 UNNAMED = set("fmt drop next eq cmp partial_cmp hash clone into_iter from deref as_ref borrow write_str read write flush".split())
 # What isn't code: comments, texts and characters.
@@ -152,7 +152,7 @@ def uncalled():
     sources = Sources()
     reached = sources.reached()
     for it in sources.functions:
-        if it.is_public and it.is_refusable and it.crate not in CALLERS + UNUSED and it not in reached:
+        if it.is_public and it.is_refusable and it.crate not in CALLERS and (it.crate, it.name) not in UNUSED and it not in reached:
             yield f"{it.file}:{it.line}", f"{it.owner}::{it.name}" if it.owner else it.name
 
 

@@ -1,12 +1,15 @@
 #!/usr/bin/env python3
-"""cases.py --program PATH [NAME..] | --pages | --from-pages, at the top of the repository: whole sessions, and the lines that
-answer them.
+"""cases.py --program PATH [NAME..] | --cli PATH [NAME..] | --pages | --from-pages, at the top of the repository: whole sessions,
+and the lines that answer them.
 
 Each crates/cedar_main/cases/NAME.stdin is what the program reads, in frames, and NAME.stdout what it must write: a line for each
-frame, and `end` or a fault. The answers are written by hand, from what is promised, and none is the program's output.
+frame, and `end` or a fault. The answers are written by hand, from what is promised, and none is the program's output. Those of
+crates/cedar_cli/sessions call functions of Cedar's extension types.
 
 --program PATH [NAME..]   runs the program on all cases, or on those named; shows of each that fails the first line that differs,
                           below the frame that it answers; and ends with `N passed, M failed`
+--cli PATH [NAME..]       the same of `cedar_cli`: `PATH session` on crates/cedar_cli/sessions, and `PATH --no-types session` on
+                          crates/cedar_main/cases, which it must answer as `cedar_session` does
 --pages                   checks that what README.md and docs/ANSWERS.md show is among the cases: the script of the one, and of the
                           other each frame of its tables behind those that have to stand before it
 --from-pages              writes these cases, named readme-* and answers-*, as the pages have them
@@ -22,6 +25,7 @@ import subprocess
 import sys
 
 CASES = "crates/cedar_main/cases"
+TYPED = "crates/cedar_cli/sessions"
 OF_PAGES = ("readme-", "answers-")
 SECONDS = 60
 VERBS = "load link unlink remove-static remove-template add put remove ask tell".split()
@@ -210,8 +214,8 @@ def of_pages():
     return {**of_readme(text_of("README.md")), **of_answers(text_of("docs/ANSWERS.md"))}
 
 
-def files_of(name):
-    return f"{CASES}/{name}.stdin", f"{CASES}/{name}.stdout"
+def files_of(name, folder=CASES):
+    return f"{folder}/{name}.stdin", f"{folder}/{name}.stdout"
 
 
 def stale(sessions):
@@ -265,17 +269,17 @@ def differs(given, wanted, wrote):
     return f"line {at + 1} differs\n{shown(above).rstrip()}\n  wanted: {of(wants)}\n  wrote:  {of(has)}{note}"
 
 
-def why_not(program, name):
+def why_not(command, folder, name):
     """Runs a case, and says what isn't as it should be, or nothing."""
-    lacks = [it for it in files_of(name) if not os.path.isfile(it)]
+    lacks = [it for it in files_of(name, folder) if not os.path.isfile(it)]
     if lacks:
         return f"{lacks[0]} isn't there"
-    given, wanted = map(bytes_of, files_of(name))
+    given, wanted = map(bytes_of, files_of(name, folder))
     last = wanted.rstrip(b"\n").split(b"\n")[-1]
     if not wanted.endswith(b"\n") or not re.fullmatch(rb"end|fault \w+", last):
         return "its last line is neither `end` nor a fault"
     try:
-        ran = subprocess.run([program], input=given, stdout=subprocess.PIPE, stderr=subprocess.PIPE, timeout=SECONDS)
+        ran = subprocess.run(command, input=given, stdout=subprocess.PIPE, stderr=subprocess.PIPE, timeout=SECONDS)
     except subprocess.TimeoutExpired:
         return f"it hadn't ended after {SECONDS} seconds"
     if ran.stdout != wanted:
@@ -296,9 +300,9 @@ def ended(words, given=None, **streams):
     return ran.returncode, ran.stdout, ran.stderr
 
 
-def lets_wait(program):
+def lets_wait(command):
     """Whether each line comes while the client waits for it, with the next frame unsent."""
-    with subprocess.Popen([program], stdin=subprocess.PIPE, stdout=subprocess.PIPE, bufsize=0) as ran:
+    with subprocess.Popen(command, stdin=subprocess.PIPE, stdout=subprocess.PIPE, bufsize=0) as ran:
         try:
             for _ in range(3):
                 ran.stdin.write(frame("load", b""))
@@ -312,29 +316,32 @@ def lets_wait(program):
             ran.kill()
 
 
-def beside_frames(program):
+def beside_frames(command):
     """What no script of frames shows, by name, and whether it is as it should be."""
     given = frame("load", b"")
-    yield "(a word behind the program's name)", ended([program, "word"], given) == (1, b"", b"usage: cedar_session\n")
+    if len(command) == 1:
+        yield "(a word behind the program's name)", ended([*command, "word"], given) == (1, b"", b"usage: cedar_session\n")
+    else:
+        yield "(a word behind `session`)", ended([*command, "word"], given)[:2] == (2, b"")
     with open("/dev/full", "wb") as full:
-        yield "(output that can't be written)", ended([program], given, stdout=full)[0] == 3
+        yield "(output that can't be written)", ended(command, given, stdout=full)[0] == 3
     folder = os.open("/", os.O_RDONLY)
-    yield "(input that can't be read)", ended([program], stdin=folder)[:2] == (3, b"")
+    yield "(input that can't be read)", ended(command, stdin=folder)[:2] == (3, b"")
     os.close(folder)
-    yield "(a client that waits for each line)", lets_wait(program)
+    yield "(a client that waits for each line)", lets_wait(command)
 
 
-def run_cases(program, names):
-    files = sorted(os.listdir(CASES))
+def run_cases(command, folder, names):
+    files = sorted(os.listdir(folder))
     known = sorted({os.path.splitext(it)[0] for it in files if it.endswith((".stdin", ".stdout"))})
     others = [] if names else [it for it in files if not it.endswith((".stdin", ".stdout"))]
     faults = [f"{it}: it is no NAME.stdin and no NAME.stdout" for it in others]
     faults += [f"{it}: there is no such case" for it in names if it not in known]
-    tried = {it: why_not(program, it) for it in known if not names or it in names}
+    tried = {it: why_not(command, folder, it) for it in known if not names or it in names}
     if not names:
-        tried.update((name, None if is_well else "it doesn't end as docs/ANSWERS.md says") for name, is_well in beside_frames(program))
+        tried.update((name, None if is_well else "it doesn't end as docs/ANSWERS.md says") for name, is_well in beside_frames(command))
     if not known:
-        faults.append(f"{CASES} has no case")
+        faults.append(f"{folder} has no case")
     faults += [f"{name}: {why}" for name, why in tried.items() if why]
     passed = sum(not why for why in tried.values())
     print("\n".join([*faults, f"{passed} passed, {len(faults)} failed"]))
@@ -348,12 +355,17 @@ def main():
             return 1 if check_pages() else 0
         if words == ["--from-pages"]:
             return write_pages()
-        if len(words) < 2 or words[0] != "--program" or any(it.startswith("-") for it in words[1:]):
+        if len(words) < 2 or words[0] not in ("--program", "--cli") or any(it.startswith("-") for it in words[1:]):
             sys.exit(__doc__)
         program = os.path.abspath(words[1])
         if not os.access(program, os.X_OK):
             sys.exit(f"there is no program {words[1]}; `rt run` in crates/cedar_main leaves one at crates/cedar_main/out/cedar_main, and tools/build.py one without a proof")
-        return 1 if run_cases(program, words[2:]) else 0
+        if words[0] == "--program":
+            return 1 if run_cases([program], CASES, words[2:]) else 0
+        failed = run_cases([program, "session"], TYPED, words[2:])
+        if not words[2:]:
+            failed += run_cases([program, "--no-types", "session"], CASES, [])
+        return 1 if failed else 0
     except (Unread, OSError) as why:
         sys.exit(str(why))
 

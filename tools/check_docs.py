@@ -1,5 +1,5 @@
 #!/usr/bin/env python3
-"""check_docs.py, at the top of the repository: what README.md and docs/ name stands in the tree.
+"""check_docs.py [--figures], at the top of the repository: what README.md and docs/ name stands in the tree.
 
 Between backquotes a page may name a crate, a word of a crate (`word` of `crate`, also several words: `a`, `b` and `c` of
 `crate`), a function of a crate (`crate::function`), a file, a folder or a must-fail edit. Each has to be there: a crate has a
@@ -10,9 +10,12 @@ has as many.
 A crate may also stand before the words: a heading of docs/DEFINITIONS.md names the crate of the words in brackets below it, and
 a row of docs/PROOFS.md that begins with a crate in bold is one of its calls, as are the rows after it. In docs/ARCHITECTURE.md
 each crate has a row, whose last cell is what tools/rooms.py finds nearest below it. No paragraph has more than 100 words, and
-the pages of docs/ have 20,000 at most. README.md says that each call that may be refused is shown to succeed: tools/called.py
+the pages of docs/ have 20,000 at most, README.md 1,600. A link to a line (`word` of a file, #L12) leads to one with that word on it. Each row of
+docs/THEOREM.md that begins with a law has the figures of tools/trusted_base.py, as README.md does, and nothing in the tree is assumed
+or left open. README.md says that each call that may be refused is shown to succeed: tools/called.py
 finds those that no program, example or row makes.
 
+--figures writes the figures of docs/THEOREM.md and README.md again, and the lines to which links lead that have lost their word.
 Prints a line for each that isn't so, and ends with status 1 where there is any."""
 
 import os
@@ -24,17 +27,27 @@ import sys
 sys.dont_write_bytecode = True
 import called
 import rooms
+import trusted_base
 
 NUMBERS = "no one two three four five six seven eight nine ten eleven twelve".split()
 # A word in capitals stands for whatever name is there.
 PATTERN = re.compile(r"\b[A-Z]{4,}\b(?!\.md)")
 FILE = re.compile(r"^[\w.+*/-]+\.(md|py|rt|antt|edit|txt|c|h|rs|sh|stdin|stdout)$")
-LONGEST, WHOLE = 100, 20_000
+LONGEST, WHOLE, FIRST_PAGE = 100, 20_000, 1_600
+THEOREM = "cedar_theorem.specs.Theorem.IsAnsweredByTheRules"
+LAW = re.compile(r"\| `cedar_\w+(\.|::)")
+LINES = re.compile(r"([\d,]+) lines of definitions")
+LINK = re.compile(r"\[`([^`]+)`\]\(([^)#\s]+)#L(\d+)\)")
 
 
 def text_of(path):
     with open(path, encoding="utf-8", errors="replace") as it:
         return it.read()
+
+
+def write(path, text):
+    with open(path, "w", encoding="utf-8") as it:
+        it.write(text)
 
 
 def tracked():
@@ -118,6 +131,31 @@ def faults_of_line(tree, line):
     yield from wrong_counts(tree, line)
 
 
+def target_of(page, link):
+    """The file to which a link leads, with its lines, and whether the one that it names has the word."""
+    word, path, number = link.groups()
+    file = os.path.normpath(os.path.join(os.path.dirname(page), path))
+    lines = text_of(file).splitlines() if os.path.isfile(file) else []
+    holds = int(number) <= len(lines) and re.search(rf"\b{re.escape(word)}\b", lines[int(number) - 1])
+    return file, lines, bool(holds)
+
+
+def faults_of_links(page, line):
+    """Each link to a line of a file that hasn't the word between backquotes before it."""
+    for link in LINK.finditer(line):
+        file, _, holds = target_of(page, link)
+        if not holds:
+            yield f"line {link[3]} of {file} hasn't `{link[1]}`"
+
+
+def mended(page, link):
+    """A link, to the first line that declares its word where the one that it names hasn't it."""
+    _, lines, holds = target_of(page, link)
+    declares = re.compile(rf"\s*(?:(?:abbrev|pub|data|record) )*{re.escape(link[1])}(?: |$)")
+    at = next((n for n, it in enumerate(lines, 1) if declares.match(it)), link[3])
+    return link[0] if holds else f"[`{link[1]}`]({link[2]}#L{at})"
+
+
 def number_of(word):
     return int(word) if word.isdigit() else NUMBERS.index(word.lower())
 
@@ -176,6 +214,44 @@ def faults_of_architecture(tree, text):
     yield from ((1, f"no row has `{it}`") for it in below if it not in rows)
 
 
+def figures_of(law):
+    """How many definitions, files, lines and lines without comments a law rests on, as a page has them."""
+    files, definitions, told, plain, _ = trusted_base.figures([law.strip("`")])[-1]
+    return [f"{it:,}" for it in (definitions, files, told, plain)]
+
+
+def write_figures():
+    page, row = "docs/THEOREM.md", lambda it: " | ".join(["", *it[:2], *figures_of(it[0]), ""]).strip()
+    lines = [row(cells_of(it)) if LAW.match(it) else it for it in text_of(page).splitlines()]
+    write(page, LINK.sub(lambda it: mended(page, it), "\n".join(lines) + "\n"))
+    write("README.md", LINES.sub(f"{figures_of(THEOREM)[2]} lines of definitions", text_of("README.md")))
+
+
+def faults_of_theorem(tree, text):
+    rows = 0
+    for number, line in prose(text):
+        cells = cells_of(line) if LAW.match(line) else []
+        if len(cells) != 6:
+            continue
+        rows += 1
+        have = figures_of(cells[0])
+        if cells[2:] != have:
+            yield number, f"{cells[0]} rests on {' | '.join(have)}"
+    if not rows:
+        yield 1, "no row says what a law rests on"
+    yield from ((1, f"{path}:{number}: {what}") for path, number, what in trusted_base.assumed(sorted(tree.crates)))
+
+
+def faults_of_first_page(text):
+    told = figures_of(THEOREM)[2]
+    for number, line in prose(text):
+        for found in LINES.findall(line):
+            if found != told:
+                yield number, f"the theorem rests on {told} lines of definitions"
+    if len(text.split()) > FIRST_PAGE:
+        yield 1, f"{len(text.split())} words, more than {FIRST_PAGE}"
+
+
 def long_paragraphs(text):
     """Each paragraph, item of a list or cell of a table that is too long, by the line on which it begins."""
     parts, last = [], None
@@ -199,6 +275,7 @@ OF_PAGES = {
     "docs/DEFINITIONS.md": faults_of_definitions,
     "docs/PROOFS.md": faults_of_proofs,
     "docs/ARCHITECTURE.md": faults_of_architecture,
+    "docs/THEOREM.md": faults_of_theorem,
 }
 
 
@@ -206,14 +283,21 @@ def faults_of(tree, page):
     text = text_of(page)
     for number, line in prose(text):
         yield from ((number, why) for why in faults_of_line(tree, line))
+        yield from ((number, why) for why in faults_of_links(page, line))
     yield from long_paragraphs(text)
     if page in OF_PAGES:
         yield from OF_PAGES[page](tree, text)
+    if page == "README.md":
+        yield from faults_of_first_page(text)
 
 
 def main():
+    if sys.argv[1:] == ["--figures"]:
+        write_figures()
+    elif sys.argv[1:]:
+        sys.exit(__doc__)
     tree = Tree()
-    pages = ["README.md", *sorted(it for it in tree.files if re.fullmatch(r"(docs|bench|include)/[\w.-]+\.md", it))]
+    pages = sorted(it for it in tree.files if re.fullmatch(r"((docs|bench|include)/)?[\w.-]+\.md", it))
     faults = [f"{page}:{number}: {why}" for page in pages for number, why in faults_of(tree, page)]
     words = sum(len(text_of(page).split()) for page in pages if page.startswith("docs/"))
     if words > WHOLE:

@@ -121,6 +121,14 @@ stacks() {
     done
 }
 
+# (with names no other cases than these are run)
+typed_sessions() {
+    local names
+    names=$(find crates/cedar_cli/sessions -name '*.stdin' -printf '%f\n' | sed 's/\.stdin$//')
+    # shellcheck disable=SC2086
+    [ -n "$names" ] && python3 tools/cases.py --cli "$room/frames" $names
+}
+
 misuse() {
     "$@" "$room/misuse" && "$@" "$room/misuse" threads
 }
@@ -133,7 +141,7 @@ memcheck() {
 clean_session() {
     local written
     written=$(mktemp -p "$room")
-    memcheck "$room/frames" < "$1" > "$written"
+    memcheck "$room/frames" "${@:2}" < "$1" > "$written"
     [ $? -ne 99 ] && diff "${1%.stdin}.stdout" "$written" && return
     echo "$1"
     return 1
@@ -144,6 +152,7 @@ under_valgrind() {
     export room
     # shellcheck disable=SC2016
     find crates/cedar_main/cases -name '*.stdin' -size -20001c -print0 | xargs -0 -P "$(nproc)" -n 1 bash -c 'clean_session "$1"' '' || return 1
+    clean_session crates/cedar_cli/sessions/ip-on-literals.stdin session || return 1
     serves memcheck
 }
 
@@ -217,6 +226,7 @@ if has cc 'the examples in C, and all that needs the shared object'; then
     try 'threads with the stacks of cedar.h hold the deepest texts' stacks
     if has python3 'the sessions by a handle, and the client in Python'; then
         try 'sessions by a handle' limited python3 tools/cases.py --program "$room/frames"
+        try "sessions by a handle that knows Cedar's extension types" limited typed_sessions
         try 'sessions by a handle, with requests for memory refused' limited python3 tools/refuse_growths.py --program "$room/frames" --seconds "${SECONDS_OF_REFUSING:-30}"
         try 'values in Python are read back' python_tests test_values
         try 'what copies hold' python_tests test_held

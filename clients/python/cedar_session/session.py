@@ -37,6 +37,8 @@ def _library(path: Optional[str]) -> ctypes.CDLL:
         cedar.cedar_command.argtypes = [handle, ctypes.c_char_p, count, ctypes.c_char_p, count]
         cedar.cedar_answer.argtypes = [handle, ctypes.c_void_p, count, ctypes.POINTER(count)]
         cedar.cedar_free.argtypes = cedar.cedar_close.argtypes = [handle]
+        if hasattr(cedar, "cedar_new_standard"):
+            cedar.cedar_new_standard.argtypes = cedar.cedar_new.argtypes
         version = cedar.cedar_version().decode(errors="replace")
     except (AttributeError, OSError) as why:
         raise NoLibrary(str(why)) from why
@@ -68,9 +70,10 @@ def _stack_here() -> Optional[int]:
 
 class Session(Commands):
     """A session of this process, which stays on the thread that opens it. `depth` is its limit of depth, for which that thread has
-    to have the stack. No command can be broken off."""
+    to have the stack. Its texts may call the functions of Cedar's types `decimal`, `ipaddr`, `datetime` and `duration`, unless
+    `types` is False, or where it isn't given and the shared object has none. No command can be broken off."""
 
-    def __init__(self, depth: int = DEPTH, library: Optional[str] = None):
+    def __init__(self, depth: int = DEPTH, library: Optional[str] = None, types: Optional[bool] = None):
         super().__init__()
         wanted, here = stack_for(depth), _stack_here()
         if here is not None and here < wanted:
@@ -79,7 +82,11 @@ class Session(Commands):
         self._written = ctypes.c_size_t()
         self._written_at = ctypes.byref(self._written)
         self._make_room(256)
-        self._want(self._cedar.cedar_new(ctypes.byref(self._handle), depth))
+        has_types = hasattr(self._cedar, "cedar_new_standard")
+        if types and not has_types:
+            raise NoLibrary("the shared object has no session with Cedar's extension types")
+        opens = self._cedar.cedar_new if types is False or not has_types else self._cedar.cedar_new_standard
+        self._want(opens(ctypes.byref(self._handle), depth))
 
     def last_line(self) -> str:
         """The line that answers the last command, again where there was no memory for it. It changes nothing."""

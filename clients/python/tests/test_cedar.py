@@ -376,6 +376,25 @@ class Sessions(Answers, Interrupted, unittest.TestCase):
             gc.collect()
         self.assertEqual([it.category for it in caught], [ResourceWarning])
 
+    def test_types(self):
+        policy = 'permit(principal, action, resource) when { ip(context.address).isInRange(ip("10.0.0.0/8")) };'
+        self.session.load(policy)
+        self.assertEqual(ask_all(self.session, ALICE, address="10.1.2.3").decision, Decision.ALLOW)
+        self.assertEqual(ask_all(self.session, ALICE, address="11.1.2.3"), Answer(Decision.DENY, (), (), {}))
+        self.assertEqual(ask_all(self.session, ALICE, address="10.1.2.300").erring, {"policy0": "FailedExtensionFunctionExecution"})
+        with cedar.Session(types=True) as typed:
+            self.assertEqual(typed.load(policy), ["policy0"])
+        with cedar.Session(types=False) as bare:
+            self.refused("Text", bare.load, policy)
+
+    def test_a_library_without_types(self):
+        bare = mock.Mock(wraps=self.session._cedar, spec=["cedar_new", "cedar_command", "cedar_answer", "cedar_close", "cedar_free"])
+        with mock.patch("cedar_session.session._library", return_value=bare):
+            with self.assertRaisesRegex(cedar.NoLibrary, "types"):
+                cedar.Session(types=True)
+            with cedar.Session() as session:
+                self.refused("Text", session.load, 'permit(principal, action, resource) when { ip("::1").isLoopback() };')
+
     def test_no_library(self):
         for path in ("/nonexistent.so", "libc.so.6"):
             with self.subTest(path=path), self.assertRaises(cedar.NoLibrary):

@@ -24,6 +24,7 @@ struct Handle {
 
 unsafe extern "C" {
     fn cedar_new(session: &mut *mut Handle, depth: u32) -> u32;
+    fn cedar_new_standard(session: &mut *mut Handle, depth: u32) -> u32;
     fn cedar_command(
         session: *mut Handle,
         verb: *const u8,
@@ -35,6 +36,9 @@ unsafe extern "C" {
     fn cedar_free(session: *mut Handle) -> u32;
     fn cedar_version() -> *const c_char;
 }
+
+/// A call that makes a handle and opens it.
+type Opener = unsafe extern "C" fn(&mut *mut Handle, u32) -> u32;
 
 const DONE: u32 = 0;
 const NO_ROOM: u32 = 5;
@@ -66,12 +70,22 @@ pub struct Session {
 }
 
 impl Session {
-    /// A session without policies and entities, with this limit of depth.
+    /// A session without policies and entities, with this limit of depth, whose texts may call the functions of
+    /// Cedar's types `decimal`, `ipaddr`, `datetime` and `duration`.
     ///
     /// [`Error::Depth`] where it is above [`DEPTH_MAX`], [`Error::Stack`] where this thread's stack is too small
     /// for it, [`Error::Library`] where the library is of another version, [`Error::Memory`] where there is no
     /// memory.
     pub fn open(depth: u32) -> Result<Session, Error> {
+        Session::open_by(depth, cedar_new_standard)
+    }
+
+    /// The same without these types, as the program `cedar_session` answers.
+    pub fn open_without_types(depth: u32) -> Result<Session, Error> {
+        Session::open_by(depth, cedar_new)
+    }
+
+    fn open_by(depth: u32, new: Opener) -> Result<Session, Error> {
         let wanted = stack_for(depth);
         if depth > DEPTH_MAX {
             return Err(Error::Depth(depth));
@@ -85,7 +99,7 @@ impl Session {
         }
         let mut handle = ptr::null_mut();
         // SAFETY: it writes the handle, or null.
-        let status = unsafe { cedar_new(&mut handle, depth) };
+        let status = unsafe { new(&mut handle, depth) };
         let handle = NonNull::new(handle).ok_or_else(|| error_of(status, depth))?;
         Ok(Session {
             handle,

@@ -104,6 +104,21 @@ fn types_of_what_is_unknown() -> Result<(), Error> {
 }
 
 #[test]
+fn functions_of_types() -> Result<(), Error> {
+    let policy = "permit(principal, action, resource) when { ip(context.address).isInRange(ip(\"10.0.0.0/8\")) };";
+    on_a_thread(move |mut session| {
+        session.load(policy)?;
+        let answer = session.ask(&of(&alice()).known("address", "10.1.2.3"))?;
+        is(&answer, Decision::Allow, &["policy0"], &["policy0"]);
+        let answer = session.ask(&of(&alice()).known("address", "11.1.2.3"))?;
+        is(&answer, Decision::Deny, &[], &[]);
+        let mut bare = Session::open_without_types(DEPTH)?;
+        assert_eq!(bare.load(policy), refused("Text"));
+        Ok(())
+    })
+}
+
+#[test]
 fn what_a_user_typed_stays_a_name() -> Result<(), Error> {
     let mut session = SessionThread::open(DEPTH)?;
     session.load("permit(principal == User::\"root\", action, resource);")?;

@@ -10,7 +10,6 @@ use Rattle.cedar_world.specs.Commands.{Reply}
 use Rattle.cedar_world.specs.Session.{Command, Answers, no_command, a_command}
 use Rattle.cedar_world.specs.Setting.{Setting}
 use Rattle.cedar_world.specs.World.{World}
-use Rattle.cedar_session.specs.Programs.{IsProgramSetting}
 use Rattle.cedar_authoring.specs.declared.scripts.script.Script.{Script}
 use Rattle.cedar_authoring.specs.declared.scripts.script.Step.{Step}
 use Rattle.cedar_authoring.specs.declared.scripts.script.Test.{Test}
@@ -131,14 +130,12 @@ module _ (by : Setting) where
       }
 
   -- what is told of all tests, and how many passed
-  pub Counted-told : (script : Script) (told whole : Text) (passed failed status : ℕ) → IsProgramSetting by → Counted script.set_up.items script.tests.items told passed failed
-      → whole ≡ told ++ (((decimal passed ++ codes " passed, ") ++ decimal failed) ++ codes " failed\n") → (status ≡ 0) ↔ ((0 < passed) × (failed ≡ 0)) → TellsScript script status whole
-  Counted-told script told whole passed failed status program counted is fine =
+  pub Counted-told : (script : Script) (told whole : Text) (passed failed status : ℕ) → Counted script.set_up.items script.tests.items told passed failed
+      → whole ≡ told ++ (((decimal passed ++ codes " passed, ") ++ decimal failed) ++ codes " failed\n") → (status ≡ 0) ↔ ((0 < passed) × (failed ≡ 0)) → TellsScript by script status whole
+  Counted-told script told whole passed failed status counted is fine =
       let P : ℕ → ℕ → Type 0 = λ p f. whole ≡ told ++ (((decimal p ++ codes " passed, ") ++ decimal f) ++ codes " failed\n") in
       let Q : ℕ → ℕ → Type 0 = λ p f. (status ≡ 0) ↔ ((0 < p) × (f ≡ 0)) in
       record {
-        by = by;
-        program = program;
         results = counted.results;
         lines = told;
         tests = counted.tests;

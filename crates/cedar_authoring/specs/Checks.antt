@@ -15,7 +15,6 @@ use Rattle.cedar_world.specs.Commands.{Load, Named}
 use Rattle.cedar_world.specs.Setting.{Setting}
 use Rattle.cedar_world.specs.Step.{Step}
 use Rattle.cedar_world.specs.World.{World, new_world}
-use Rattle.cedar_session.specs.Programs.{IsProgramSetting}
 use Rattle.cedar_authoring.specs.declared.places.Position.{Position}
 use Rattle.cedar_authoring.specs.Faults.{TellsFault}
 use Rattle.cedar_authoring.specs.Places.{position_at}
@@ -30,9 +29,7 @@ abbrev pub Loads : Setting → Text → List Text → Type 0
 Loads by bytes ids = (new : World) × Step by new_world Load bytes (Named ids) new
 
 -- A fresh session loads the bytes, and a line tells of each policy, in order.
-pub record TellsFine (name bytes told : Text) : Type 0 where
-  pub by : Setting
-  pub program : IsProgramSetting by
+pub record TellsFine (by : Setting) (name bytes told : Text) : Type 0 where
   pub ids : List Text
   pub loads : Loads by bytes ids
   pub lines : TellsEach (TellsPolicy name) ids told
@@ -43,9 +40,7 @@ pub record IsUnread (by : Setting) (text : Text) (errors : ParseErrors) : Type 0
   pub kinds : TellOnly errors (text_shows read_policies by.depth text (policies_show (policy_names by.functions)))
 
 -- No fresh session loads the text, and lines tell of each error by which it isn't read, in order: want of memory is none.
-pub record TellsFaults (name text told : Text) : Type 0 where
-  pub by : Setting
-  pub program : IsProgramSetting by
+pub record TellsFaults (by : Setting) (name text told : Text) : Type 0 where
   pub unloaded : (ids : List Text) → Loads by text ids → ⊥
   pub errors : ParseErrors
   pub unread : IsUnread by text errors
@@ -53,11 +48,11 @@ pub record TellsFaults (name text told : Text) : Type 0 where
   pub lines : TellsEach (TellsFault name text) (errors_of errors) told
 
 -- a text that is longer than a command's may be, or one with faults
-abbrev pub TellsUnloaded : Text → Text → Text → Type 0
-TellsUnloaded name text told = ((body_limit < length text) × TellsOf name None told) ⊎ TellsFaults name text told
+abbrev pub TellsUnloaded : Setting → Text → Text → Text → Type 0
+TellsUnloaded by name text told = ((body_limit < length text) × TellsOf name None told) ⊎ TellsFaults by name text told
 
 -- Bytes that are no text, where the first that shows it is told, or a text that isn't loaded.
-abbrev pub TellsRefused : Text → Text → Text → Type 0
-TellsRefused name bytes told =
+abbrev pub TellsRefused : Setting → Text → Text → Text → Type 0
+TellsRefused by name bytes told =
     ((IsUtf8 bytes → ⊥) × TellsOf name (Some (position_at bytes (utf8_valid_len bytes))) told)
-    ⊎ (IsUtf8 bytes × TellsUnloaded name bytes told)
+    ⊎ (IsUtf8 bytes × TellsUnloaded by name bytes told)

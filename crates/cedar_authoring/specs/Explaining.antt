@@ -13,7 +13,6 @@ use Rattle.cedar_world.specs.Setting.{Setting}
 use Rattle.cedar_world.specs.Step.{Step}
 use Rattle.cedar_world.specs.World.{World, new_world, Policies, in_force_at}
 use Rattle.cedar_session.specs.Lending.{IsResponse}
-use Rattle.cedar_session.specs.Programs.{IsProgramSetting}
 use Rattle.cedar_authoring.specs.Checks.{TellsFaults}
 use Rattle.cedar_authoring.specs.Names.{TellsNames}
 use Rattle.cedar_authoring.specs.Places.{position_at}
@@ -46,9 +45,7 @@ pub record TellsAnswered (name : Text) (by : Setting) (asked : World) (ids : Lis
   pub whole : told ≡ (answer_line answer ++ lines) ++ last
 
 -- A session that was just made loads the policies, puts the entities and answers the question, and that is told.
-pub record TellsExplained (name policies entities question : Text) (status : ℕ) (told : Text) : Type 0 where
-  pub by : Setting
-  pub program : IsProgramSetting by
+pub record TellsExplained (by : Setting) (name policies entities question : Text) (status : ℕ) (told : Text) : Type 0 where
   pub ids : List Text
   pub loaded : World
   pub loads : Step by new_world Load policies (Named ids) loaded
@@ -80,7 +77,7 @@ Refuses by old verb text Holds = (new : World) × (r : Refusal) × (r ≢ Memory
 -- A session that was just made refuses one of these texts, which it is given in their order, and that is told: of
 -- policies as a check tells it.
 pub data TellsRefusal (by : Setting) (policies entities question : Titled) (told : Text) : Type 0 where
-  policies_refused : Refuses by new_world Load policies.text (λ r. TellsFaults policies.name policies.text told)
+  policies_refused : Refuses by new_world Load policies.text (λ r. TellsFaults by policies.name policies.text told)
       → TellsRefusal by policies entities question told
   entities_refused : (ids : List Text) (loaded : World) → Step by new_world Load policies.text (Named ids) loaded
       → Refuses by loaded Put entities.text (λ r. TellsBody by entities.name entities.text r told)
@@ -91,7 +88,7 @@ pub data TellsRefusal (by : Setting) (policies entities question : Titled) (told
       → TellsRefusal by policies entities question told
 
 -- One of the three is no text, or a session refuses it, and that is told.
-abbrev pub TellsUnexplained : Titled → Titled → Titled → Text → Type 0
-TellsUnexplained policies entities question told =
+abbrev pub TellsUnexplained : Setting → Titled → Titled → Titled → Text → Type 0
+TellsUnexplained by policies entities question told =
     (TellsNoText policies told ⊎ TellsNoText entities told ⊎ TellsNoText question told)
-    ⊎ ((by : Setting) × IsProgramSetting by × TellsRefusal by policies entities question told)
+    ⊎ TellsRefusal by policies entities question told

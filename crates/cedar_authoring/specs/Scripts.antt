@@ -10,7 +10,6 @@ use Rattle.cedar_world.specs.Session.{Command, Answers}
 use Rattle.cedar_world.specs.Setting.{Setting}
 use Rattle.cedar_world.specs.Step.{Step as Steps}
 use Rattle.cedar_world.specs.World.{World, new_world}
-use Rattle.cedar_session.specs.Programs.{IsProgramSetting}
 use Rattle.cedar_authoring.specs.declared.scripts.script.Step.{Step}
 use Rattle.cedar_authoring.specs.declared.scripts.script.Test.{Test}
 use Rattle.cedar_authoring.specs.declared.scripts.script.Script.{Script}
@@ -108,9 +107,7 @@ abbrev pub summary : List Bool → Text
 summary results = ((decimal (passed_of results) ++ codes " passed, ") ++ decimal (failed_of results)) ++ codes " failed\n"
 
 -- The tests of a script ran, each is told of, then how many passed; the status is 0 where some did and none failed.
-pub record TellsScript (script : Script) (status : ℕ) (told : Text) : Type 0 where
-  pub by : Setting
-  pub program : IsProgramSetting by
+pub record TellsScript (by : Setting) (script : Script) (status : ℕ) (told : Text) : Type 0 where
   pub results : List Bool
   pub lines : Text
   pub tests : TellsTests by script.set_up.items script.tests.items results lines

@@ -1,9 +1,7 @@
 // Whether a text is policies that a session loads, and why not.
 ghost use Rattle.std.specs.Prelude.{◌≡◌, ◌≤◌, ◌⊎◌, length, string_bytes, IfOk};
-ghost use Rattle.cedar_extensions.specs.Lookups.{IsUnknownAlone};
-ghost use Rattle.cedar_extensions.specs.Tables.{functions_in};
 ghost use Rattle.cedar_frames.specs.Heads.{body_limit};
-ghost use Rattle.cedar_session.specs.Programs.{setting_within};
+ghost use Rattle.cedar_session.specs.Settings.{setting_with};
 ghost use Rattle.cedar_authoring.specs.Checks.{TellsFine, TellsFaults, TellsUnloaded, TellsRefused, IsUnread};
 ghost use Rattle.cedar_authoring.specs.Telling.{TellsOf};
 
@@ -11,6 +9,7 @@ use crate::faults::tell_unread;
 use crate::listing::tell_policies;
 use crate::places::{Position, position_in};
 use crate::telling::tell;
+use cedar_extensions::objects::ExtensionFunctionObject;
 use cedar_parser::PolicySet;
 use cedar_parser::err::ParseErrors;
 use cedar_parser::strict::parse_policyset;
@@ -18,7 +17,7 @@ use cedar_session::{BODY_LIMIT, Extensions, Session};
 use std::alloc::{AllocError, Global};
 
 /// How deep texts may nest: the limit of the program `cedar_session`.
-pub(crate) const DEPTH: u32 = 256;
+pub const DEPTH: u32 = 256;
 
 /// What is told, and a status that says how it went.
 #[derive(Debug, Drop)]
@@ -27,19 +26,27 @@ pub struct Report {
     pub text: String,
 }
 
-/// Checks a text of policies and templates, named so in what is told.
+/// Checks a text of policies and templates that may call the functions of this table, named so in what is told.
 ///
-/// The status is 0 where a session of the program's that was just made answers the load of these bytes by ids, and then
-/// a line tells of each: `NAME:LINE:COLUMN: ID permit`, or `forbid` or `template`, and behind it the annotation `@id`.
-/// It is 1 where no such session loads them, and then lines tell why: that the bytes are no text, that they are more
-/// than 1,048,576, or each error by which the text isn't read. Refused for memory alone.
-pub fn check_text(alloc: Global, name: &str, bytes: &[u8]) -> Result<Report, AllocError>
-    ensures fine { IfOk result (λ report. report.status ≡ 0 → TellsFine name.now bytes.now (string_bytes report.text)) }
-    ensures refused { IfOk result (λ report. report.status ≡ 1 → TellsRefused name.now bytes.now (string_bytes report.text)) }
+/// The status is 0 where a session over the table that was just made, with the program's limit of depth, answers the
+/// load of these bytes by ids, and then a line tells of each: `NAME:LINE:COLUMN: ID permit`, or `forbid` or `template`,
+/// and behind it the annotation `@id`. It is 1 where no such session loads them, and then lines tell why: that the
+/// bytes are no text, that they are more than 1,048,576, or each error by which the text isn't read. Refused for memory
+/// alone.
+pub fn check_text<F: ExtensionFunctionObject>(
+    alloc: Global,
+    extensions: &Extensions<'_, F>,
+    name: &str,
+    bytes: &[u8],
+) -> Result<Report, AllocError>
+    ensures fine { IfOk result (λ report. report.status ≡ 0
+        → TellsFine (setting_with F.answers extensions.now DEPTH) name.now bytes.now (string_bytes report.text)) }
+    ensures refused { IfOk result (λ report. report.status ≡ 1
+        → TellsRefused (setting_with F.answers extensions.now DEPTH) name.now bytes.now (string_bytes report.text)) }
     ensures status { IfOk result (λ report. (report.status ≡ 0) ⊎ (report.status ≡ 1)) }
 {
     match str::from_utf8(bytes) {
-        Ok(text) => check_length(alloc, name, text),
+        Ok(text) => check_length(alloc, extensions, name, text),
         Err(error) => {
             let place = position_in(bytes, error.valid_up_to());
             refuse(alloc, name, Some(place), "the text is no UTF-8")
@@ -47,32 +54,37 @@ pub fn check_text(alloc: Global, name: &str, bytes: &[u8]) -> Result<Report, All
     }
 }
 
-fn check_length(alloc: Global, name: &str, text: &str) -> Result<Report, AllocError>
-    ensures fine { IfOk result (λ report. report.status ≡ 0 → TellsFine name.now text.now (string_bytes report.text)) }
-    ensures refused { IfOk result (λ report. report.status ≡ 1 → TellsUnloaded name.now text.now (string_bytes report.text)) }
+fn check_length<F: ExtensionFunctionObject>(
+    alloc: Global,
+    extensions: &Extensions<'_, F>,
+    name: &str,
+    text: &str,
+) -> Result<Report, AllocError>
+    ensures fine { IfOk result (λ report. report.status ≡ 0
+        → TellsFine (setting_with F.answers extensions.now DEPTH) name.now text.now (string_bytes report.text)) }
+    ensures refused { IfOk result (λ report. report.status ≡ 1
+        → TellsUnloaded (setting_with F.answers extensions.now DEPTH) name.now text.now (string_bytes report.text)) }
     ensures status { IfOk result (λ report. (report.status ≡ 0) ⊎ (report.status ≡ 1)) }
 {
     if text.len() > BODY_LIMIT {
         return refuse(alloc, name, None, "the text is longer than 1,048,576 bytes");
     }
-    let extensions = Extensions::all_available(alloc)?;
-    match parse_policyset(alloc, text, &extensions, DEPTH) {
-        Ok(set) => load(alloc, name, text, &extensions, &set),
-        Err(errors) => refuse_unread(alloc, name, text, &extensions, &errors),
+    match parse_policyset(alloc, text, extensions, DEPTH) {
+        Ok(set) => load(alloc, name, text, extensions, &set),
+        Err(errors) => refuse_unread(alloc, name, text, extensions, &errors),
     }
 }
 
 /// Loads a text in a session of its own, and tells of each policy.
-fn load(
+fn load<F: ExtensionFunctionObject>(
     alloc: Global,
     name: &str,
     text: &str,
-    extensions: &Extensions<'_>,
+    extensions: &Extensions<'_, F>,
     set: &PolicySet,
 ) -> Result<Report, AllocError>
     requires fits { length text.now ≤ body_limit }
-    requires program { IsUnknownAlone (functions_in extensions.now) }
-    ensures fine { IfOk result (λ report. TellsFine name.now text.now (string_bytes report.text)) }
+    ensures fine { IfOk result (λ report. TellsFine (setting_with F.answers extensions.now DEPTH) name.now text.now (string_bytes report.text)) }
     ensures status { IfOk result (λ report. report.status ≡ 0) }
 {
     let Ok(mut session) = Session::new(alloc, extensions, DEPTH) else {
@@ -89,16 +101,15 @@ fn load(
 }
 
 /// Tells why a text isn't read, unless that is want of memory.
-pub(crate) fn refuse_unread(
+pub(crate) fn refuse_unread<F: ExtensionFunctionObject>(
     alloc: Global,
     name: &str,
     text: &str,
-    extensions: &Extensions<'_>,
+    extensions: &Extensions<'_, F>,
     errors: &ParseErrors,
 ) -> Result<Report, AllocError>
-    requires program { IsUnknownAlone (functions_in extensions.now) }
-    requires unread { IsUnread (setting_within DEPTH extensions.now) text.now errors.now }
-    ensures faults { IfOk result (λ report. TellsFaults name.now text.now (string_bytes report.text)) }
+    requires unread { IsUnread (setting_with F.answers extensions.now DEPTH) text.now errors.now }
+    ensures faults { IfOk result (λ report. TellsFaults (setting_with F.answers extensions.now DEPTH) name.now text.now (string_bytes report.text)) }
     ensures status { IfOk result (λ report. report.status ≡ 1) }
 {
     let told = tell_unread(alloc, name, text, errors)?;

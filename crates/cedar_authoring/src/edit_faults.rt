@@ -5,6 +5,7 @@ use crate::checking::DEPTH;
 use crate::shapes::part_at;
 use cedar_closure::TcError;
 use cedar_entities::errors::EntitiesError;
+use cedar_extensions::objects::ExtensionFunctionObject;
 use cedar_held::listed_entities;
 use cedar_literals::escapes::Escaped;
 use cedar_literals::uids::EntityUID;
@@ -13,9 +14,9 @@ use cedar_session::{Entities, Extensions, Refusal, Session, Verb};
 use std::alloc::{AllocError, Global};
 
 /// Which entity of a list isn't taken, beside those that are held.
-pub(crate) fn edit_fault(
+pub(crate) fn edit_fault<F: ExtensionFunctionObject>(
     alloc: Global,
-    extensions: &Extensions<'_>,
+    extensions: &Extensions<'_, F>,
     held: &Entities,
     verb: Verb,
     body: BorrowedRestrictedExpr<'_>,
@@ -97,9 +98,9 @@ fn has_uid(entity: BorrowedRestrictedExpr<'_>, uid: &EntityUID) -> bool {
 }
 
 /// The first name of what is told that isn't among those that the question waits for.
-pub(crate) fn name_fault(
+pub(crate) fn name_fault<F: ExtensionFunctionObject>(
     alloc: Global,
-    session: &Session<'_, '_>,
+    session: &Session<'_, '_, F>,
     body: BorrowedRestrictedExpr<'_>,
 ) -> Result<Option<BodyFault>, AllocError> {
     let untold = once(session.untold()?);

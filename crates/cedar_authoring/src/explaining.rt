@@ -1,13 +1,12 @@
 // What decides a question, policy by policy.
 ghost use Rattle.std.specs.Prelude.{◌≡◌, ◌≢◌, ◌⊎◌, ◌++◌, string_bytes, option_map, map, IfOk, OnOk, IfNone, IfSome, ◌≤◌, length};
-ghost use Rattle.cedar_extensions.specs.Lookups.{IsUnknownAlone};
-ghost use Rattle.cedar_extensions.specs.Tables.{functions_in};
 ghost use Rattle.cedar_frames.specs.Heads.{body_limit};
 ghost use Rattle.cedar_policies.specs.Policies.{policy_id};
 ghost use Rattle.cedar_policy_parts.specs.Decisions.{decision_of};
 ghost use Rattle.cedar_replies.specs.Replies.{answer_of};
 ghost use Rattle.cedar_replies.specs.declared.refusal.Refusal.TheVariants as refusals;
 ghost use Rattle.cedar_session.specs.Sessions.{setting_of, world_of};
+ghost use Rattle.cedar_session.specs.Settings.{setting_with};
 ghost use Rattle.cedar_trees.specs.Bare.{bare};
 ghost use Rattle.cedar_world.specs.Lines.{answer_line};
 ghost use Rattle.cedar_authoring.specs.Checks.{TellsFaults};
@@ -21,6 +20,7 @@ use crate::awaiting::{awaited, listed, once, push_standing};
 use crate::checking::{DEPTH, Report, refuse_unread};
 use crate::giving::{Refused, Source, read_source, tell_refusal};
 use crate::standing::{Standing, tell_standing};
+use cedar_extensions::objects::ExtensionFunctionObject;
 use cedar_held::worlds::policy_sets_are_worlds;
 use cedar_parser::strict::parse_policyset;
 use cedar_policies::policies::Policy;
@@ -41,7 +41,8 @@ pub struct Named<'t> {
     pub bytes: &'t [u8],
 }
 
-/// Explains the question of a body, as `ask` takes it, by these policies and these entities, as `put` takes them.
+/// Explains the question of a body, as `ask` takes it, by these policies and these entities, as `put` takes them, in a
+/// session over this table, with the program's limit of depth.
 ///
 /// Told is first the line that answers the question; then of each policy in force, in their order, where it stands, its
 /// id, its effect, its annotation `@id`, and whether it is satisfied, isn't, errs, or is open. Below one that errs stands
@@ -50,14 +51,20 @@ pub struct Named<'t> {
 ///
 /// The status is 0 where the question is answered `allow`, 2 where it is `deny`, and 3 where it is `open`. It is 1 where
 /// one of the texts is refused, and then lines tell why. Refused for memory alone.
-pub fn explained(
+pub fn explained<F: ExtensionFunctionObject>(
     alloc: Global,
+    extensions: &Extensions<'_, F>,
     policies: Named<'_>,
     entities: Named<'_>,
     question: Named<'_>,
 ) -> Result<Report, AllocError>
-    ensures explained { IfOk result (λ report. (report.status ≡ 1 → ⊥) → TellsExplained policies.entry.name.now policies.entry.bytes.now entities.entry.bytes.now question.entry.bytes.now report.status (string_bytes report.text)) }
-    ensures refused { IfOk result (λ report. report.status ≡ 1 → TellsUnexplained (titled policies.entry) (titled entities.entry) (titled question.entry) (string_bytes report.text)) }
+    ensures explained { IfOk result (λ report. (report.status ≡ 1 → ⊥)
+        → TellsExplained (setting_with F.answers extensions.now DEPTH)
+        policies.entry.name.now policies.entry.bytes.now entities.entry.bytes.now question.entry.bytes.now
+        report.status (string_bytes report.text)) }
+    ensures refused { IfOk result (λ report. report.status ≡ 1
+        → TellsUnexplained (setting_with F.answers extensions.now DEPTH)
+        (titled policies.entry) (titled entities.entry) (titled question.entry) (string_bytes report.text)) }
     ensures status { IfOk result (λ report. (report.status ≡ 0) ⊎ (report.status ≡ 1) ⊎ (report.status ≡ 2) ⊎ (report.status ≡ 3)) }
 {
     let policies = match read_source(alloc, policies.name, policies.bytes)? {
@@ -69,13 +76,14 @@ pub fn explained(
         Err(report) => return Ok(report),
     };
     match read_source(alloc, question.name, question.bytes)? {
-        Ok(question) => explain_texts(alloc, policies, entities, question),
+        Ok(question) => explain_texts(alloc, extensions, policies, entities, question),
         Err(report) => Ok(report),
     }
 }
 
-fn explain_texts(
+fn explain_texts<F: ExtensionFunctionObject>(
     alloc: Global,
+    extensions: &Extensions<'_, F>,
     policies: Source<'_>,
     entities: Source<'_>,
     question: Source<'_>,
@@ -83,43 +91,47 @@ fn explain_texts(
     requires policies { length policies.text.now ≤ body_limit }
     requires entities { length entities.text.now ≤ body_limit }
     requires question { length question.text.now ≤ body_limit }
-    ensures explained { IfOk result (λ report. (report.status ≡ 1 → ⊥) → TellsExplained policies.entry.name.now policies.entry.text.now entities.entry.text.now question.entry.text.now report.status (string_bytes report.text)) }
-    ensures refused { IfOk result (λ report. report.status ≡ 1 → TellsUnexplained (titled_text policies.entry) (titled_text entities.entry) (titled_text question.entry) (string_bytes report.text)) }
+    ensures explained { IfOk result (λ report. (report.status ≡ 1 → ⊥)
+        → TellsExplained (setting_with F.answers extensions.now DEPTH)
+        policies.entry.name.now policies.entry.text.now entities.entry.text.now question.entry.text.now
+        report.status (string_bytes report.text)) }
+    ensures refused { IfOk result (λ report. report.status ≡ 1
+        → TellsUnexplained (setting_with F.answers extensions.now DEPTH)
+        (titled_text policies.entry) (titled_text entities.entry) (titled_text question.entry) (string_bytes report.text)) }
     ensures status { IfOk result (λ report. (report.status ≡ 0) ⊎ (report.status ≡ 1) ⊎ (report.status ≡ 2) ⊎ (report.status ≡ 3)) }
 {
-    let extensions = Extensions::all_available(alloc)?;
-    let Ok(mut session) = Session::new(alloc, &extensions, DEPTH) else {
+    let Ok(mut session) = Session::new(alloc, extensions, DEPTH) else {
         return Err(AllocError);
     };
     let ids = match session.load(policies.text) {
         Ok(ids) => ids,
         Err(refusal) => {
-            return refuse_load(alloc, &extensions, policies, refusal);
+            return refuse_load(alloc, extensions, policies, refusal);
         }
     };
     if let Err(refusal) = session.put(entities.text) {
         let command = Refused::of(Verb::Put, entities, refusal);
-        return tell_refusal(alloc, &extensions, &session, command);
+        return tell_refusal(alloc, extensions, &session, command);
     }
     match session.ask(question.text) {
         Ok(answer) => explain(alloc, &session, policies, ids.as_slice(), answer),
         Err(refusal) => {
             let command = Refused::of(Verb::Ask, question, refusal);
-            tell_refusal(alloc, &extensions, &session, command)
+            tell_refusal(alloc, extensions, &session, command)
         }
     }
 }
 
 /// Tells why a session doesn't load a text, unless that is want of memory.
-fn refuse_load(
+fn refuse_load<F: ExtensionFunctionObject>(
     alloc: Global,
-    extensions: &Extensions<'_>,
+    extensions: &Extensions<'_, F>,
     source: Source<'_>,
     refusal: Refusal,
 ) -> Result<Report, AllocError>
-    requires program { IsUnknownAlone (functions_in extensions.now) }
     ensures other { IfOk result (λ report. refusal ≢ refusals.Memory) }
-    ensures told { IfOk result (λ report. TellsFaults source.entry.name.now source.entry.text.now (string_bytes report.text)) }
+    ensures told { IfOk result (λ report. TellsFaults (setting_with F.answers extensions.now DEPTH)
+        source.entry.name.now source.entry.text.now (string_bytes report.text)) }
     ensures status { IfOk result (λ report. report.status ≡ 1) }
 {
     if let Refusal::Memory = refusal {
@@ -132,9 +144,9 @@ fn refuse_load(
 }
 
 /// Tells what an open question is answered, and how each of these policies stands to it.
-fn explain(
+fn explain<F: ExtensionFunctionObject>(
     alloc: Global,
-    session: &Session<'_, '_>,
+    session: &Session<'_, '_, F>,
     source: Source<'_>,
     ids: &[PolicyID],
     answer: Answer,
@@ -175,10 +187,10 @@ fn status_of(decision: Option<Decision>) -> u8
 }
 
 /// Tells how each policy in force stands.
-fn tell_policies(
+fn tell_policies<F: ExtensionFunctionObject>(
     alloc: Global,
     told: &mut String,
-    session: &Session<'_, '_>,
+    session: &Session<'_, '_, F>,
     source: Source<'_>,
     response: &PartialResponse,
     ids: &[PolicyID],
@@ -233,10 +245,10 @@ pub fn awaited_names_suffice()
 {}
 
 /// Tells the names for which what is left of the policies waits.
-fn tell_names(
+fn tell_names<F: ExtensionFunctionObject>(
     alloc: Global,
     told: &mut String,
-    session: &Session<'_, '_>,
+    session: &Session<'_, '_, F>,
     response: &PartialResponse,
 ) -> Result<(), AllocError>
     ensures { OnOk result (Adds (TellsNames (world_of session.now).asked response.now) (string_bytes told.old) (string_bytes told.new)) }

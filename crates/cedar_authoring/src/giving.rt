@@ -4,7 +4,7 @@ ghost use Rattle.cedar_frames.specs.Heads.{body_limit};
 ghost use Rattle.cedar_parser.specs.declared.restricted.RestrictedExpressionParseError.TheVariants.{InvalidRestrictedExpression};
 ghost use Rattle.cedar_replies.specs.Refusals.{refusal_of};
 ghost use Rattle.cedar_replies.specs.declared.refusal.Refusal.TheVariants as refusals;
-ghost use Rattle.cedar_session.specs.Programs.{setting_within};
+ghost use Rattle.cedar_session.specs.Settings.{setting_with};
 ghost use Rattle.cedar_authoring.specs.Explaining.{TellsNoText};
 ghost use Rattle.cedar_authoring.specs.RefusedBodies.{is_for_a_part, IsBodyWithin, TellsBody, TellsKind, TellsOfAPart, TellsUnread};
 
@@ -16,6 +16,7 @@ use crate::places::{Position, position_in};
 use crate::shapes::Shape;
 use crate::telling::{on_one_line, shown, tell, tell_line};
 use crate::value_faults::value_fault;
+use cedar_extensions::objects::ExtensionFunctionObject;
 use cedar_parser::ExtStyles;
 use cedar_parser::err::RestrictedExpressionParseError;
 use cedar_parser::prelude::StylesOfExtensions;
@@ -80,14 +81,15 @@ impl<'t> Refused<'t> {
 
 /// Tells why a session refuses a command's body, unless that is want of memory: the faults of the body, or else the kind
 /// of the refusal.
-pub(crate) fn tell_refusal(
+pub(crate) fn tell_refusal<F: ExtensionFunctionObject>(
     alloc: Global,
-    extensions: &Extensions<'_>,
-    session: &Session<'_, '_>,
+    extensions: &Extensions<'_, F>,
+    session: &Session<'_, '_, F>,
     command: Refused<'_>,
 ) -> Result<Report, AllocError>
     ensures other { IfOk result (λ report. command.entry.refusal ≢ refusals.Memory) }
-    ensures told { IfOk result (λ report. TellsBody (setting_within DEPTH extensions.now) command.entry.source.name.now command.entry.source.text.now (refusal_of command.entry.refusal) (string_bytes report.text)) }
+    ensures told { IfOk result (λ report. TellsBody (setting_with F.answers extensions.now DEPTH)
+        command.entry.source.name.now command.entry.source.text.now (refusal_of command.entry.refusal) (string_bytes report.text)) }
     ensures status { IfOk result (λ report. report.status ≡ 1) }
 {
     let Refused {
@@ -118,10 +120,10 @@ fn kind_told(alloc: Global, name: &str, refusal: Refusal) -> Result<String, Allo
 
 /// What is told of the faults of a refused command's text, where some are found: as policies those of a load, and else
 /// as a body.
-pub(crate) fn faults_told(
+pub(crate) fn faults_told<F: ExtensionFunctionObject>(
     alloc: Global,
-    extensions: &Extensions<'_>,
-    session: &Session<'_, '_>,
+    extensions: &Extensions<'_, F>,
+    session: &Session<'_, '_, F>,
     command: Refused<'_>,
 ) -> Result<Option<String>, AllocError> {
     let source = command.source;
@@ -137,14 +139,15 @@ pub(crate) fn faults_told(
     }
 }
 
-fn body_told(
+fn body_told<F: ExtensionFunctionObject>(
     alloc: Global,
-    extensions: &Extensions<'_>,
-    session: &Session<'_, '_>,
+    extensions: &Extensions<'_, F>,
+    session: &Session<'_, '_, F>,
     command: Refused<'_>,
 ) -> Result<Option<String>, AllocError>
-    ensures some { IfOk result (λ found. IfSome found (λ told. TellsBody (setting_within DEPTH extensions.now) command.entry.source.name.now command.entry.source.text.now (refusal_of command.entry.refusal) (string_bytes told))) }
-    ensures none { IfOk result (λ found. IfNone found (IsBodyWithin (setting_within DEPTH extensions.now) command.entry.source.text.now)) }
+    ensures some { IfOk result (λ found. IfSome found (λ told. TellsBody (setting_with F.answers extensions.now DEPTH)
+        command.entry.source.name.now command.entry.source.text.now (refusal_of command.entry.refusal) (string_bytes told))) }
+    ensures none { IfOk result (λ found. IfNone found (IsBodyWithin (setting_with F.answers extensions.now DEPTH) command.entry.source.text.now)) }
 {
     let source = command.source;
     let styles = ExtStyles::from_extensions(alloc, extensions)?;
@@ -155,10 +158,10 @@ fn body_told(
 }
 
 /// What is told of the part for which a body is so refused, where one is found.
-fn part_told(
+fn part_told<F: ExtensionFunctionObject>(
     alloc: Global,
-    extensions: &Extensions<'_>,
-    session: &Session<'_, '_>,
+    extensions: &Extensions<'_, F>,
+    session: &Session<'_, '_, F>,
     command: Refused<'_>,
     body: BorrowedRestrictedExpr<'_>,
 ) -> Result<Option<String>, AllocError>
@@ -192,10 +195,10 @@ fn is_for_a_part(refusal: Refusal) -> bool
 }
 
 /// The fault of a body by which it is so refused, where one is found.
-fn fault_of(
+fn fault_of<F: ExtensionFunctionObject>(
     alloc: Global,
-    extensions: &Extensions<'_>,
-    session: &Session<'_, '_>,
+    extensions: &Extensions<'_, F>,
+    session: &Session<'_, '_, F>,
     command: Refused<'_>,
     body: BorrowedRestrictedExpr<'_>,
 ) -> Result<Option<BodyFault>, AllocError> {

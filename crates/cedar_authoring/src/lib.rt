@@ -23,7 +23,7 @@ mod telling;
 mod value_faults;
 mod wrong;
 
-pub use checking::{Report, check_text};
+pub use checking::{DEPTH, Report, check_text};
 pub use explaining::{Named, awaited_names_suffice, explained};
 pub use faults::tell_faults;
 pub use places::{Position, line_and_column};

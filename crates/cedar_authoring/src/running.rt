@@ -1,8 +1,6 @@
 // The tests of a script, run in sessions.
 ghost use Rattle.std.specs.Prelude.{◌≡◌, ◌⊎◌, ◌++◌, ◌&&◌, All, string_bytes, IfOk, OnOk};
-ghost use Rattle.cedar_extensions.specs.Lookups.{IsUnknownAlone};
-ghost use Rattle.cedar_extensions.specs.Tables.{functions_in};
-ghost use Rattle.cedar_session.specs.Programs.{setting_within};
+ghost use Rattle.cedar_session.specs.Settings.{setting_with};
 ghost use Rattle.cedar_session.specs.Sessions.{setting_of, world_of};
 ghost use Rattle.cedar_authoring.specs.Scripts.{AreAnswered, Fits, FitsCommand, IsAnswered, Passes, TellsLong, TellsScript, TellsTest};
 ghost use Rattle.cedar_authoring.specs.Telling.{Adds, AreBelow};
@@ -11,19 +9,27 @@ use crate::checking::{DEPTH, Report};
 use crate::expecting::{first_long, is_expected, tell_test};
 use crate::scripts::{Script, Step, Test};
 use crate::wrong::tell_wrong;
+use cedar_extensions::objects::ExtensionFunctionObject;
 use cedar_session::{Command, Extensions, Session};
 use std::alloc::{AllocError, Global};
 
 /// Runs the tests of a script, named so in what is told.
 ///
-/// Each test has a session of its own, which is given the commands before the first test and then those of the test. It
-/// passes where each is answered as is expected. Told is `ok   TEST`, or `FAIL TEST` with what was answered otherwise
-/// below, and last how many passed and failed. The status is 0 where at least one passed and none failed, and else 1.
-/// It is 2 where the text of a command is longer than 1,048,576 bytes; then no test runs. Refused for memory alone.
-pub fn run_script(alloc: Global, name: &str, script: &Script) -> Result<Report, AllocError>
+/// Each test has a session of its own over this table, with the program's limit of depth, which is given the commands
+/// before the first test and then those of the test. It passes where each is answered as is expected. Told is
+/// `ok   TEST`, or `FAIL TEST` with what was answered otherwise below, and last how many passed and failed. The status
+/// is 0 where at least one passed and none failed, and else 1. It is 2 where the text of a command is longer than
+/// 1,048,576 bytes; then no test runs. Refused for memory alone.
+pub fn run_script<F: ExtensionFunctionObject>(
+    alloc: Global,
+    extensions: &Extensions<'_, F>,
+    name: &str,
+    script: &Script,
+) -> Result<Report, AllocError>
     ensures long { IfOk result (λ report. report.status ≡ 2 → Fits script.now → ⊥) }
     ensures told { IfOk result (λ report. report.status ≡ 2 → TellsLong name.now script.now (string_bytes report.text)) }
-    ensures ran { IfOk result (λ report. (report.status ≡ 2 → ⊥) → TellsScript script.now report.status (string_bytes report.text)) }
+    ensures ran { IfOk result (λ report. (report.status ≡ 2 → ⊥)
+        → TellsScript (setting_with F.answers extensions.now DEPTH) script.now report.status (string_bytes report.text)) }
     ensures status { IfOk result (λ report. (report.status ≡ 0) ⊎ (report.status ≡ 1) ⊎ (report.status ≡ 2)) }
 {
     if let Some(step) = first_long(script) {
@@ -33,19 +39,17 @@ pub fn run_script(alloc: Global, name: &str, script: &Script) -> Result<Report, 
         )?;
         return Ok(Report { status: 2, text });
     }
-    let extensions = Extensions::all_available(alloc)?;
-    run_tests(alloc, &extensions, name, script)
+    run_tests(alloc, extensions, name, script)
 }
 
-fn run_tests(
+fn run_tests<F: ExtensionFunctionObject>(
     alloc: Global,
-    extensions: &Extensions<'_>,
+    extensions: &Extensions<'_, F>,
     name: &str,
     script: &Script,
 ) -> Result<Report, AllocError>
-    requires program { IsUnknownAlone (functions_in extensions.now) }
     requires fits { Fits script.now }
-    ensures ran { IfOk result (λ report. TellsScript script.now report.status (string_bytes report.text)) }
+    ensures ran { IfOk result (λ report. TellsScript (setting_with F.answers extensions.now DEPTH) script.now report.status (string_bytes report.text)) }
     ensures status { IfOk result (λ report. (report.status ≡ 0) ⊎ (report.status ≡ 1)) }
 {
     let mut told = String::new(alloc);
@@ -70,9 +74,9 @@ fn run_tests(
 }
 
 /// Runs a test in a session of its own, tells of it, and answers whether it passed.
-fn run_test(
+fn run_test<F: ExtensionFunctionObject>(
     alloc: Global,
-    extensions: &Extensions<'_>,
+    extensions: &Extensions<'_, F>,
     told: &mut String,
     name: &str,
     set_up: &[Step],
@@ -80,7 +84,7 @@ fn run_test(
 ) -> Result<bool, AllocError>
     requires set_up { All FitsCommand set_up.now }
     requires test { All FitsCommand test.now.steps.items }
-    ensures passes { IfOk result (λ passed. Passes (setting_within DEPTH extensions.now) (set_up.now ++ test.now.steps.items) passed) }
+    ensures passes { IfOk result (λ passed. Passes (setting_with F.answers extensions.now DEPTH) (set_up.now ++ test.now.steps.items) passed) }
     ensures told { IfOk result (λ passed. Adds (TellsTest (string_bytes test.now.name) passed) (string_bytes told.old) (string_bytes told.new)) }
 {
     let Ok(mut session) = Session::new(alloc, extensions, DEPTH) else {
@@ -102,10 +106,10 @@ fn run_test(
 }
 
 /// Gives a session these commands, tells what is answered otherwise than expected, and answers whether nothing is.
-fn run_steps(
+fn run_steps<F: ExtensionFunctionObject>(
     alloc: Global,
-    extensions: &Extensions<'_>,
-    session: &mut Session<'_, '_>,
+    extensions: &Extensions<'_, F>,
+    session: &mut Session<'_, '_, F>,
     wrong: &mut String,
     name: &str,
     steps: &[Step],
@@ -130,10 +134,10 @@ fn both(a: bool, b: bool) -> bool
 }
 
 /// Gives a session a command, and answers whether it is answered as is expected; tells of it where it isn't.
-fn run_step(
+fn run_step<F: ExtensionFunctionObject>(
     alloc: Global,
-    extensions: &Extensions<'_>,
-    session: &mut Session<'_, '_>,
+    extensions: &Extensions<'_, F>,
+    session: &mut Session<'_, '_, F>,
     wrong: &mut String,
     name: &str,
     step: &Step,

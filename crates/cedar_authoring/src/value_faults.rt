@@ -4,6 +4,7 @@ use crate::body_faults::{BodyFault, start_of};
 use crate::checking::DEPTH;
 use crate::shapes::part_at;
 use cedar_extensions::evaluation_error::EvaluationError;
+use cedar_extensions::objects::ExtensionFunctionObject;
 use cedar_held::{refusal, string_of};
 use cedar_literals::escapes::Escaped;
 use cedar_restricted::borrowed::BorrowedRestrictedExpr;
@@ -15,9 +16,9 @@ use cedar_trees::expr::{Expr, ExprKind};
 use std::alloc::{AllocError, Global};
 
 /// The first value of a body by which it is so refused.
-pub(crate) fn value_fault(
+pub(crate) fn value_fault<F: ExtensionFunctionObject>(
     alloc: Global,
-    extensions: &Extensions<'_>,
+    extensions: &Extensions<'_, F>,
     verb: Verb,
     refused: Refusal,
     body: BorrowedRestrictedExpr<'_>,
@@ -33,9 +34,9 @@ pub(crate) fn value_fault(
     }
 }
 
-fn entities_fault(
+fn entities_fault<F: ExtensionFunctionObject>(
     alloc: Global,
-    extensions: &Extensions<'_>,
+    extensions: &Extensions<'_, F>,
     refused: Refusal,
     body: BorrowedRestrictedExpr<'_>,
 ) -> Result<Option<BodyFault>, AllocError> {
@@ -52,9 +53,9 @@ fn entities_fault(
     Ok(None)
 }
 
-fn entity_fault(
+fn entity_fault<F: ExtensionFunctionObject>(
     alloc: Global,
-    extensions: &Extensions<'_>,
+    extensions: &Extensions<'_, F>,
     refused: Refusal,
     number: usize,
     entity: BorrowedRestrictedExpr<'_>,
@@ -75,9 +76,9 @@ fn entity_fault(
     }
 }
 
-fn fields_fault(
+fn fields_fault<F: ExtensionFunctionObject>(
     alloc: Global,
-    extensions: &Extensions<'_>,
+    extensions: &Extensions<'_, F>,
     refused: Refusal,
     what: &str,
     record: BorrowedRestrictedExpr<'_>,
@@ -106,9 +107,9 @@ fn behind_key(
     Ok(BodyFault { byte, message })
 }
 
-fn field_fault(
+fn field_fault<F: ExtensionFunctionObject>(
     alloc: Global,
-    extensions: &Extensions<'_>,
+    extensions: &Extensions<'_, F>,
     refused: Refusal,
     value: BorrowedRestrictedExpr<'_>,
 ) -> Result<Option<BodyFault>, AllocError> {

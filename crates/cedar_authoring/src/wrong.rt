@@ -5,14 +5,15 @@ ghost use Rattle.cedar_authoring.specs.Telling.{Adds, AreBelow};
 use crate::giving::{Refused, Source, faults_told};
 use crate::scripts::Step;
 use crate::telling::{push_indented, push_on_line};
+use cedar_extensions::objects::ExtensionFunctionObject;
 use cedar_session::{Extensions, Refusal, Reply, Session, line_in_memory};
 use std::alloc::{AllocError, Global};
 
 /// Tells where a command stands, what was expected, what is answered, and the faults of a text that is refused.
-pub(crate) fn tell_wrong(
+pub(crate) fn tell_wrong<F: ExtensionFunctionObject>(
     alloc: Global,
-    extensions: &Extensions<'_>,
-    session: &Session<'_, '_>,
+    extensions: &Extensions<'_, F>,
+    session: &Session<'_, '_, F>,
     told: &mut String,
     name: &str,
     step: &Step,
@@ -74,10 +75,10 @@ fn about(alloc: Global, step: &Step) -> Result<String, AllocError> {
 }
 
 /// Tells the faults of a command's text that is refused, where they stand in the script or the file.
-fn tell_refused(
+fn tell_refused<F: ExtensionFunctionObject>(
     alloc: Global,
-    extensions: &Extensions<'_>,
-    session: &Session<'_, '_>,
+    extensions: &Extensions<'_, F>,
+    session: &Session<'_, '_, F>,
     told: &mut String,
     name: &str,
     step: &Step,
@@ -120,10 +121,10 @@ fn placed(alloc: Global, step: &Step) -> Result<String, AllocError> {
     Ok(text)
 }
 
-fn push_faults(
+fn push_faults<F: ExtensionFunctionObject>(
     alloc: Global,
-    extensions: &Extensions<'_>,
-    session: &Session<'_, '_>,
+    extensions: &Extensions<'_, F>,
+    session: &Session<'_, '_, F>,
     told: &mut String,
     command: Refused<'_>,
 ) -> Result<(), AllocError>

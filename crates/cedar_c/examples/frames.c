@@ -113,12 +113,13 @@ static void put_answer(void) {
 }
 
 int main(int count, char **words) {
-    (void)words;
-    if (count > 1) {
+    /* (as `cedar_cli session` does, whose texts may call the functions of Cedar's extension types) */
+    int standard = count == 2 && strcmp(words[1], "session") == 0;
+    if (count > 1 && !standard) {
         fprintf(stderr, "usage: cedar_session\n");
         return USAGE;
     }
-    if (cedar_open(&session, CEDAR_DEPTH) != CEDAR_DONE) {
+    if ((standard ? cedar_open_standard : cedar_open)(&session, CEDAR_DEPTH) != CEDAR_DONE) {
         return NO_MEMORY;
     }
     for (;;) {

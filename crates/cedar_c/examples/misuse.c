@@ -86,6 +86,9 @@ static void no_handles(void) {
     WANT(cedar_open(NULL, CEDAR_DEPTH), CEDAR_MISUSE);
     WANT_ALL(NULL, CEDAR_MISUSE);
     WANT(cedar_new(NULL, CEDAR_DEPTH), CEDAR_MISUSE);
+    WANT(cedar_open_standard(&half, CEDAR_DEPTH), CEDAR_MISUSE);
+    WANT(cedar_open_standard(NULL, CEDAR_DEPTH), CEDAR_MISUSE);
+    WANT(cedar_new_standard(NULL, CEDAR_DEPTH), CEDAR_MISUSE);
     char bytes[sizeof(cedar_session) + 1] = {0};
     WANT(cedar_open((cedar_session *)(void *)(bytes + ((uintptr_t)bytes % 2 == 0)), CEDAR_DEPTH), CEDAR_MISUSE);
 }
@@ -106,6 +109,7 @@ static void closed_ones(void) {
     WANT_ALL(&session, CEDAR_NOT_OPEN);
     opened(&session);
     WANT(cedar_open(&session, CEDAR_DEPTH), CEDAR_IS_OPEN);
+    WANT(cedar_open_standard(&session, CEDAR_DEPTH), CEDAR_IS_OPEN);
     WANT_SESSION(&session);
     WANT(cedar_close(&session), CEDAR_DONE);
     WANT_ALL(&session, CEDAR_NOT_OPEN);
@@ -131,6 +135,14 @@ static void new_ones(void) {
     WANT(cedar_free(NULL), CEDAR_DONE);
     WANT(cedar_new(&session, CEDAR_DEPTH_MAX + 1), CEDAR_TOO_DEEP);
     WANT(session == NULL, 1);
+    WANT(cedar_new_standard(&session, CEDAR_DEPTH_MAX + 1), CEDAR_TOO_DEEP);
+    WANT(session == NULL, 1);
+    WANT(cedar_new_standard(&session, CEDAR_DEPTH), CEDAR_DONE);
+    WANT(give(session, "load", any), CEDAR_DONE);
+    WANT_SESSION(session);
+    WANT(cedar_close(session), CEDAR_DONE);
+    WANT(cedar_open_standard(session, CEDAR_DEPTH), CEDAR_DONE);
+    WANT(cedar_free(session), CEDAR_DONE);
 }
 
 static void texts(void) {

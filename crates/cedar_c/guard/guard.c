@@ -134,12 +134,15 @@ static uint8_t *output_at(void *output) {
     return output == NULL ? none : output;
 }
 
+/* The proved function that opens a handle. */
+typedef uint8_t opener(void **at, uint32_t depth);
+
 /* Opens a handle that is held. */
-static enum cedar_status open_held(cedar_session *session, uint32_t depth, enum state was) {
+static enum cedar_status open_held(cedar_session *session, uint32_t depth, enum state was, opener *proved_open) {
     uintptr_t lowest = lowest_of_stack();
     enum cedar_status status = look_at_depth(lowest, depth);
     if (status == CEDAR_DONE) {
-        status = (enum cedar_status)cedar_proved_open(&session->at, depth);
+        status = (enum cedar_status)proved_open(&session->at, depth);
     }
     if (status == CEDAR_DONE) {
         put(session, THREAD, this_thread());
@@ -151,7 +154,7 @@ static enum cedar_status open_held(cedar_session *session, uint32_t depth, enum 
     return status;
 }
 
-enum cedar_status cedar_open(cedar_session *session, uint32_t depth) {
+static enum cedar_status open_by(cedar_session *session, uint32_t depth, opener *proved_open) {
     enum state was;
     enum cedar_status status = hold(session, &was);
     if (status != CEDAR_DONE) {
@@ -161,10 +164,18 @@ enum cedar_status cedar_open(cedar_session *session, uint32_t depth) {
         let_go(session, was);
         return CEDAR_IS_OPEN;
     }
-    return open_held(session, depth, was);
+    return open_held(session, depth, was, proved_open);
 }
 
-enum cedar_status cedar_new(cedar_session **session, uint32_t depth) {
+enum cedar_status cedar_open(cedar_session *session, uint32_t depth) {
+    return open_by(session, depth, cedar_proved_open);
+}
+
+enum cedar_status cedar_open_standard(cedar_session *session, uint32_t depth) {
+    return open_by(session, depth, cedar_proved_open_standard);
+}
+
+static enum cedar_status new_by(cedar_session **session, uint32_t depth, opener *proved_open) {
     if (session == NULL) {
         return CEDAR_MISUSE;
     }
@@ -173,13 +184,21 @@ enum cedar_status cedar_new(cedar_session **session, uint32_t depth) {
     if (made == NULL) {
         return CEDAR_NO_MEMORY;
     }
-    enum cedar_status status = open_held(made, depth, NEW_CLOSED);
+    enum cedar_status status = open_held(made, depth, NEW_CLOSED, proved_open);
     if (status == CEDAR_DONE) {
         *session = made;
     } else {
         free(made);
     }
     return status;
+}
+
+enum cedar_status cedar_new(cedar_session **session, uint32_t depth) {
+    return new_by(session, depth, cedar_proved_open);
+}
+
+enum cedar_status cedar_new_standard(cedar_session **session, uint32_t depth) {
+    return new_by(session, depth, cedar_proved_open_standard);
 }
 
 enum cedar_status cedar_command(cedar_session *session, const void *verb, size_t verb_length, const void *body, size_t body_length) {

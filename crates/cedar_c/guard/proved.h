@@ -11,6 +11,7 @@
 enum { PROVED_DONE = 0, PROVED_NO_COMMAND = 2, PROVED_NO_ROOM = 5 };
 
 uint8_t cedar_proved_open(void **at, uint32_t depth);
+uint8_t cedar_proved_open_standard(void **at, uint32_t depth);
 uint8_t cedar_proved_command(void **at, const uint8_t *verb, size_t verb_length, const uint8_t *body, size_t body_length);
 uint8_t cedar_proved_answer(void **at, uint8_t *output, size_t output_length, size_t *written);
 uint8_t cedar_proved_close(void **at);

@@ -88,9 +88,16 @@ typedef struct cedar_session {
    CEDAR_DONE, CEDAR_NO_MEMORY, CEDAR_IS_OPEN, CEDAR_TOO_DEEP. */
 CEDAR_API enum cedar_status cedar_open(cedar_session *session, uint32_t depth);
 
+/* Opens a handle as cedar_open does, by a session whose texts may call the functions of Cedar's types decimal, ipaddr,
+   datetime and duration. */
+CEDAR_API enum cedar_status cedar_open_standard(cedar_session *session, uint32_t depth);
+
 /* Makes a handle and opens it, as cedar_open does: *session is the handle, or null at any status but CEDAR_DONE.
    cedar_free gives it back. */
 CEDAR_API enum cedar_status cedar_new(cedar_session **session, uint32_t depth);
+
+/* Makes a handle and opens it, as cedar_open_standard does. */
+CEDAR_API enum cedar_status cedar_new_standard(cedar_session **session, uint32_t depth);
 
 /* Does the command of a verb, as `load`, and a body. What it is answered, a refusal too, stays with the handle until
    the next command: cedar_answer writes it. So no call that does a command has to be repeated, for want of room or

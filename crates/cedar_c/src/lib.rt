@@ -1,7 +1,7 @@
 //! Sessions for callers in C, and in languages that call C.
 //!
-//! [`cedar_open`], [`cedar_command`], [`cedar_answer`] and [`cedar_close`] keep a session behind a handle of
-//! the caller's. [`cedar_run`] does what the program `cedar_session` does, frames in and answer lines out, and
+//! [`cedar_open`] or [`cedar_open_standard`], [`cedar_command`], [`cedar_answer`] and [`cedar_close`] keep a
+//! session behind a handle of the caller's. [`cedar_run`] does what the program `cedar_session` does, frames in and answer lines out, and
 //! keeps nothing. `include/cedar.h` declares them, and `docs/C.md` says how a program is built with them.
 #![tactic(auto)]
 
@@ -12,7 +12,7 @@ mod open_session;
 
 ghost use Rattle.std.specs.Prelude.{◌≡◌, ◌≢◌, ◌↔◌, ◌⊎◌, ◌<◌, length, take, drop, None, IsSome, IsSomeAnd};
 ghost use Rattle.cedar_session.specs.InMemory.{AnswersAll, AnswersToFault, AnswersInBytes, AnswersAllWithin, AnswersToFaultWithin, AnswersInBytesWithin};
-ghost use Rattle.cedar_c.specs.Opened.{IsNewWithin, IsCommand, Does, answer_line};
+ghost use Rattle.cedar_c.specs.Opened.{IsNewWithin, IsNewStandardWithin, IsCommand, Does, answer_line};
 
 use cedar_session::run_input_within;
 use copying::copy_out;
@@ -58,6 +58,31 @@ pub extern "C" fn cedar_open(alloc: Global, session: &mut Handle, depth: u32) ->
         return IS_OPEN;
     }
     let Ok(open) = OpenSession::new(alloc, depth) else {
+        return NO_MEMORY;
+    };
+    match Box::new(alloc, open) {
+        Ok(open) => {
+            session.put(open);
+            DONE
+        }
+        Err(_) => NO_MEMORY,
+    }
+}
+
+/// Opens a handle as [`cedar_open`] does, by a session whose texts may call the functions of Cedar's extension
+/// types too. (Cedar language reference, "Extension types".)
+#[unsafe(no_mangle)]
+pub extern "C" fn cedar_open_standard(alloc: Global, session: &mut Handle, depth: u32) -> u8
+    ensures status { (result ≡ 0) ⊎ (result ≡ 4) ⊎ (result ≡ 7) }
+    ensures opened { result ≡ 0 → IsSomeAnd session.new.held (λ new. IsNewStandardWithin depth new) }
+    ensures is_open { (result ≡ 7) ↔ IsSome session.old.held }
+    ensures untouched { result ≢ 0 → session.new.held ≡ session.old.held }
+{
+    if let Some(open) = session.take(alloc) {
+        session.put(open);
+        return IS_OPEN;
+    }
+    let Ok(open) = OpenSession::standard(alloc, depth) else {
         return NO_MEMORY;
     };
     match Box::new(alloc, open) {

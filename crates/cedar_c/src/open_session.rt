@@ -1,14 +1,42 @@
 // What a handle holds.
-ghost use Rattle.std.specs.Prelude.{◌≡◌, IsTrue, IsFalse, IfOk};
-ghost use Rattle.cedar_c.specs.Opened.{IsNewWithin, IsCommand, Does, answer_line};
+ghost use Rattle.std.specs.Prelude.{◌≡◌, ◌≤◌, IsTrue, IsFalse, IfOk, length};
+ghost use Rattle.cedar_frames.specs.Heads.{body_limit};
+ghost use Rattle.cedar_replies.specs.Replies.{reply_of};
+ghost use Rattle.cedar_world.specs.RunText.{BodyStep};
+ghost use Rattle.cedar_c.specs.Opened.{IsNewWithin, IsNewStandardWithin, IsCommand, Does, answer_line, setting_in, world_in};
 
+use cedar_extension_types::TypeFunction;
+use cedar_extension_types::tables::standard_table;
 use cedar_frames::{BODY_LIMIT, Verb};
 use cedar_session::{Extensions, OwnedSession, Refusal, Reply, line_in_memory};
 use std::alloc::{AllocError, Global};
 
+/// The session of a handle, over one table or the other.
+#[derive(Drop)]
+pub enum Tabled {
+    /// It knows `unknown` alone.
+    Bare(OwnedSession<'static>),
+    /// It knows Cedar's extension types too.
+    Standard(OwnedSession<'static, TypeFunction>),
+}
+
+impl Tabled {
+    /// Answers the command of a verb and a body, as `OwnedSession::answer` does.
+    fn answer(&mut self, verb: Verb, body: &[u8]) -> Result<Reply, Refusal>
+        requires { length body.now ≤ body_limit }
+        ensures step { BodyStep (setting_in self.old) (world_in self.old) verb body.now (reply_of result) (world_in self.new) }
+        ensures setting { setting_in self.new ≡ setting_in self.old }
+    {
+        match self {
+            Tabled::Bare(session) => session.answer(verb, body),
+            Tabled::Standard(session) => session.answer(verb, body),
+        }
+    }
+}
+
 /// A session, and what its last command was answered.
 pub struct OpenSession {
-    session: OwnedSession<'static>,
+    session: Tabled,
     answered: Option<Result<Reply, Refusal>>,
 }
 
@@ -29,7 +57,18 @@ impl OpenSession {
     {
         let extensions = Extensions::all_available(alloc)?;
         Ok(OpenSession {
-            session: OwnedSession::new(alloc, extensions, depth),
+            session: Tabled::Bare(OwnedSession::new(alloc, extensions, depth)),
+            answered: None,
+        })
+    }
+
+    /// The same of one that knows Cedar's extension types too.
+    pub(crate) fn standard(alloc: Global, depth: u32) -> Result<OpenSession, AllocError>
+        ensures { IfOk result (λ session. IsNewStandardWithin depth session) }
+    {
+        let extensions = standard_table(alloc)?;
+        Ok(OpenSession {
+            session: Tabled::Standard(OwnedSession::new(alloc, extensions, depth)),
             answered: None,
         })
     }

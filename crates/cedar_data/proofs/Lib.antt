@@ -3,6 +3,9 @@ pub mod Tokens
 pub mod Strings
 pub mod Cuts
 pub mod Rules
+pub mod Spelled
 pub mod Lists
 pub mod NoSlots
 pub mod Whole
+pub mod ReadAttributes
+pub mod Asked

@@ -18,7 +18,7 @@ use Rattle.cedar_trees.specs.Bare.{bare, bare_entries}
 use Rattle.cedar_trees.specs.Records.{repeated_after, repeated, unless_repeated, record_made}
 use Rattle.cedar_trees.specs.declared.expr.Expr as code
 use Rattle.cedar_data.specs.Takes.{Takes, Reads}
-use Rattle.cedar_data.specs.Data.{Entries, IsData, ReadsData, ReadsBehind, ReadsPath, IsKey, id_key, text_key, ReadsKey, ReadsItems, ReadsEntries}
+use Rattle.cedar_data.specs.Data.{Entries, IsData, ReadsData, ReadsBehind, Behind, ReadsPath, IsKey, id_key, text_key, ReadsKey, ReadsItems, ReadsEntries}
 use Rattle.cedar_data.proofs.Rules.{of_primary}
 
 abbrev Made : Type 0
@@ -73,7 +73,7 @@ pub record AreData (n : ℕ) (xs : List Tree) : Type 0 where
   pub low : heights (trees xs) ≤ n
   pub restricted : are_restricted (trees xs) ≡ true
 
-trees_data : (n : ℕ) (xs : List Tree) → AllByRecursion (IsData n) xs → AreData n xs
+pub trees_data : (n : ℕ) (xs : List Tree) → AllByRecursion (IsData n) xs → AreData n xs
 trees_data n [] all = record { low = omega arith; restricted = refl }
 trees_data n (x ∷ xs) all =
     let more = trees_data n xs all.1 in
@@ -81,7 +81,7 @@ trees_data n (x ∷ xs) all =
     let two = more.low in
     record { low = omega arith; restricted = ap (λ b. b && are_restricted (trees xs)) all.0.restricted ∙ more.restricted }
 
-put_all : (P : Keyed Tree → Type 0) (e : Keyed Tree) (es : List (Keyed Tree)) → P e → AllByRecursion P es → AllByRecursion P (put e es)
+pub put_all : (P : Keyed Tree → Type 0) (e : Keyed Tree) (es : List (Keyed Tree)) → P e → AllByRecursion P es → AllByRecursion P (put e es)
 put_all P e [] h all = (h, tt)
 put_all P e (f ∷ es) h all = by (put_all P e es h all.1) (is_lt (slice_cmp nat_cmp e.0 f.0))
   where
@@ -93,7 +93,7 @@ sorted_all : (P : Keyed Tree → Type 0) (es : List (Keyed Tree)) → AllByRecur
 sorted_all P [] all = tt
 sorted_all P (e ∷ es) all = put_all P e (by_key es) all.0 (sorted_all P es all.1)
 
-values_data : (n : ℕ) (es : List (Keyed Tree)) → AllByRecursion (λ (e : Keyed Tree). IsData n e.1) es → AllByRecursion (IsData n) (map (λ e. e.1) es)
+pub values_data : (n : ℕ) (es : List (Keyed Tree)) → AllByRecursion (λ (e : Keyed Tree). IsData n e.1) es → AllByRecursion (IsData n) (map (λ e. e.1) es)
 values_data n [] all = tt
 values_data n (e ∷ es) all = (all.0, values_data n es all.1)
 
@@ -137,7 +137,7 @@ pub record IsMade (es : List (Keyed Tree)) (t : Tree) : Type 0 where
   pub differ : are_distinct (keys es) ≡ true
   pub same : record_of es ≡ t
 
-record_is_made : (es : List (Keyed Tree)) (t : Tree) → record_made es ≡ Ok t → IsMade es t
+pub record_is_made : (es : List (Keyed Tree)) (t : Tree) → record_made es ≡ Ok t → IsMade es t
 record_is_made es t made = by (repeated (keys es)) refl made
   where
     by : (r : Option Text) → repeated (keys es) ≡ r → unless_repeated r (record_of es) ≡ Ok t → IsMade es t
@@ -184,7 +184,7 @@ module _ (names : Names) (n : ℕ) where
       → bare e ≡ Apply (Call p) (trees (map bare es)) → ReadsBehind (inner names n) (suc n) first bs e rest
   call_read first bs mid next rest p es e path listed takes items made =
       record {
-        reads = subst (λ x. Reads (λ ts t us. Unary (inner names n) (word (word_of first) ∷ ts) t us) bs x rest) (sym made) (record {
+        reads = subst (λ x. Reads (Behind (inner names n) first) bs x rest) (sym made) (record {
           tokens = λ us are.
               let x = items.reads.tokens us are in
               let y = path.tokens (mark token.LeftParen ∷ x.0) (takes.tokens x.0 x.1) in

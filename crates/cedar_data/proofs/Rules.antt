@@ -10,14 +10,9 @@ use Rattle.cedar_grammar.specs.Names.{Names}
 use Rattle.cedar_grammar.specs.Token as token
 use Rattle.cedar_grammar.specs.Token.{Mark, Token, Word, word, number, text, mark, word_of, id_of}
 use Rattle.cedar_names.specs.Identifiers.{IsUnreservedId}
-use Rattle.cedar_trees.specs.Bare.{bare}
-use Rattle.cedar_trees.specs.declared.expr.Expr as code
 use Rattle.cedar_data.specs.Takes.{Takes, Reads}
-use Rattle.cedar_data.specs.Data.{IsData, ReadsData, ReadsBehind, ReadsPath}
+use Rattle.cedar_data.specs.Data.{IsData, ReadsTree, ReadsLeaf, Behind, ReadsPath}
 use Rattle.cedar_faults.proofs.Words.{word_is}
-
-abbrev Made : Type 0
-Made = code.Expr (Unit {0})
 
 -- ---- rules
 
@@ -38,41 +33,41 @@ pub leaf : (n : ℕ) (l : Literal) → IsData (suc n) (Lit l)
 leaf n l = record { low = omega arith; restricted = refl }
 
 -- and operators nest no deeper
-pub within : (names : Names) (n m : ℕ) (bs rest : Text) (e : Made) → n ≡ suc m → ReadsData (Unary (inner names m)) (suc m) bs e rest → ReadsData (Within names n) n bs e rest
-within names n m bs rest e is reads =
-    subst (λ k. ReadsData (Within names k) k bs e rest) (sym is)
+pub within : (names : Names) (n m : ℕ) (bs rest : Text) (t : Tree) → n ≡ suc m → ReadsTree (Unary (inner names m)) (suc m) bs t rest → ReadsTree (Within names n) n bs t rest
+within names n m bs rest t is reads =
+    subst (λ k. ReadsTree (Within names k) k bs t rest) (sym is)
     (record { reads = reads_by (λ ts us u. of_unary u) reads.reads; is_data = reads.is_data })
 
 -- ---- literals
 
-module _ (e : Made) (bs rest : Text) where
+module _ (x : Tree) (bs rest : Text) where
   -- one token that is a literal
-  pub literal_read : (t : Token) (l : Literal) → Takes t bs rest → ((i : Inner) (us : List Token) → Primary i (t ∷ us) (Lit l) us) → bare e ≡ Lit l → (names : Names) (n : ℕ) → ReadsData (Unary (inner names n)) (suc n) bs e rest
-  literal_read t l takes rule is names n =
+  pub literal_read : (t : Token) (l : Literal) → Takes t bs rest → ((i : Inner) (us : List Token) → Primary i (t ∷ us) (Lit l) us) → x ≡ Lit l → ReadsLeaf bs x rest
+  literal_read t l takes rule is n names =
       record {
-        reads = subst (λ x. Reads (Unary (inner names n)) bs x rest) (sym is) (record { tokens = λ us are. (t ∷ us, takes.tokens us are, of_primary (rule (inner names n) us)); shorter = takes.shorter });
+        reads = subst (λ y. Reads (Unary (inner names n)) bs y rest) (sym is) (record { tokens = λ us are. (t ∷ us, takes.tokens us are, of_primary (rule (inner names n) us)); shorter = takes.shorter });
         is_data = subst (IsData (suc n)) (sym is) (leaf n l);
       }
 
-  pub string_read : (raw : List ℕ) (s : Text) → Takes (text raw) bs rest → string_of raw ≡ Some s → bare e ≡ Lit (String s) → (names : Names) (n : ℕ) → ReadsData (Unary (inner names n)) (suc n) bs e rest
+  pub string_read : (raw : List ℕ) (s : Text) → Takes (text raw) bs rest → string_of raw ≡ Some s → x ≡ Lit (String s) → ReadsLeaf bs x rest
   string_read raw s takes is made = literal_read (text raw) (String s) takes (λ j us. text_is is) made
 
-  pub positive_read : (v : ℕ) → Takes (number v) bs rest → v < 2 ^ 63 → bare e ≡ long (pos v) → (names : Names) (n : ℕ) → ReadsData (Unary (inner names n)) (suc n) bs e rest
+  pub positive_read : (v : ℕ) → Takes (number v) bs rest → v < 2 ^ 63 → x ≡ long (pos v) → ReadsLeaf bs x rest
   positive_read v takes small made = literal_read (number v) _ takes (λ j us. number_is small) made
 
-  pub negative_read : (mid : Text) (v : ℕ) → Takes (mark token.Minus) bs mid → Takes (number v) mid rest → v ≤ 2 ^ 63 → bare e ≡ long (neg_ℤ (pos v)) → (names : Names) (n : ℕ) → ReadsData (Unary (inner names n)) (suc n) bs e rest
-  negative_read mid v minus takes small made names n =
+  pub negative_read : (mid : Text) (v : ℕ) → Takes (mark token.Minus) bs mid → Takes (number v) mid rest → v ≤ 2 ^ 63 → x ≡ long (neg_ℤ (pos v)) → ReadsLeaf bs x rest
+  negative_read mid v minus takes small made n names =
       record {
-        reads = subst (λ x. Reads (Unary (inner names n)) bs x rest) (sym made) (record {
+        reads = subst (λ y. Reads (Unary (inner names n)) bs y rest) (sym made) (record {
           tokens = λ us are. (mark token.Minus ∷ number v ∷ us, minus.tokens (number v ∷ us) (takes.tokens us are), negative_is 0 v (omega arith) small (a_sign no_sign));
           shorter = let one = minus.shorter in let two = takes.shorter in omega arith;
         });
         is_data = subst (IsData (suc n)) (sym made) (leaf n _);
       }
 
-  pub boolean_read : (w : Text) (b : Bool) → Takes (word (word_of w)) bs rest → w ≡ cond b (codes "true") (codes "false") → bare e ≡ truth b → (names : Names) (n : ℕ) → ReadsData (Unary (inner names n)) (suc n) bs e rest
-  boolean_read w true takes is made = literal_read (word token.True) _ (subst (λ x. Takes (word (word_of x)) bs rest) is takes) (λ j us. true_is) made
-  boolean_read w false takes is made = literal_read (word token.False) _ (subst (λ x. Takes (word (word_of x)) bs rest) is takes) (λ j us. false_is) made
+  pub boolean_read : (w : Text) (b : Bool) → Takes (word (word_of w)) bs rest → w ≡ cond b (codes "true") (codes "false") → x ≡ truth b → ReadsLeaf bs x rest
+  boolean_read w true takes is made = literal_read (word token.True) _ (subst (λ y. Takes (word (word_of y)) bs rest) is takes) (λ j us. true_is) made
+  boolean_read w false takes is made = literal_read (word token.False) _ (subst (λ y. Takes (word (word_of y)) bs rest) is takes) (λ j us. false_is) made
 
 -- ---- paths
 
@@ -100,20 +95,20 @@ module _ (first bs : Text) where
         short = let one = path.short in let two = colons.shorter in omega arith;
       }
 
-  pub entity_read : (i : Inner) (n : ℕ) (p : Name) (mid rest : Text) (raw : List ℕ) (s : Text) (e : Made) → ReadsPath first true bs p mid → Takes (text raw) mid rest → string_of raw ≡ Some s
-      → bare e ≡ Lit (Entity (record { type_name = p; id = s })) → ReadsBehind i (suc n) first bs e rest
-  entity_read i n p mid rest raw s e path takes is made =
+  pub entity_read : (i : Inner) (n : ℕ) (p : Name) (mid rest : Text) (raw : List ℕ) (s : Text) (x : Tree) → ReadsPath first true bs p mid → Takes (text raw) mid rest → string_of raw ≡ Some s
+      → x ≡ Lit (Entity (record { type_name = p; id = s })) → ReadsTree (Behind i first) (suc n) bs x rest
+  entity_read i n p mid rest raw s x path takes is made =
       record {
-        reads = subst (λ x. Reads (λ ts t us. Unary i (word (word_of first) ∷ ts) t us) bs x rest) (sym made) (record {
-          tokens = λ us are. let x = path.tokens (text raw ∷ us) (takes.tokens us are) in (x.0, x.1, of_primary (entity_is (entity p raw x.2 is)));
+        reads = subst (λ y. Reads (Behind i first) bs y rest) (sym made) (record {
+          tokens = λ us are. let y = path.tokens (text raw ∷ us) (takes.tokens us are) in (y.0, y.1, of_primary (entity_is (entity p raw y.2 is)));
           shorter = let one = path.short in let two = takes.shorter in omega arith;
         });
         is_data = subst (IsData (suc n)) (sym made) (leaf n _);
       }
 
 -- a first identifier, and what follows it
-pub behind_word : (i : Inner) (n : ℕ) (first bs mid rest : Text) (e : Made) → Takes (word (word_of first)) bs mid → ReadsBehind i n first mid e rest → ReadsData (Unary i) n bs e rest
-behind_word i n first bs mid rest e takes behind =
+pub behind_word : (i : Inner) (n : ℕ) (first bs mid rest : Text) (t : Tree) → Takes (word (word_of first)) bs mid → ReadsTree (Behind i first) n mid t rest → ReadsTree (Unary i) n bs t rest
+behind_word i n first bs mid rest t takes behind =
     record {
       reads = record {
         tokens = λ us are. let x = behind.reads.tokens us are in (word (word_of first) ∷ x.0, takes.tokens x.0 x.1, x.2);

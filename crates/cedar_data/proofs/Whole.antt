@@ -14,7 +14,7 @@ use Rattle.cedar_data.specs.Takes.{Skips, Reads}
 use Rattle.cedar_data.specs.Data.{ReadsData, IsDataText}
 use Rattle.cedar_data.proofs.NoSlots.{no_slots}
 
-no_tokens : IsTokens [] []
+pub no_tokens : IsTokens [] []
 no_tokens = subst (λ cs. AreTokens cs []) (sym chars-nil) (none nothing)
 
 pub data_text : (names : Names) (n : ℕ) (bs start rest : Text) (e : code.Expr (Unit {0})) (body : RestrictedExpr) → Skips bs start → ReadsData (Within names n) n start e rest → rest ≡ [] → restricted_tree body ≡ bare e → IsDataText names n bs body

@@ -1,5 +1,5 @@
 -- Data that texts write.
-use Rattle.std.specs.Prelude.{◌≡◌, ℕ, ◌≤◌, List, ◌∷◌, length, Some, Bool, true, false, cond, map}
+use Rattle.std.specs.Prelude.{◌≡◌, ℕ, suc, ◌≤◌, List, ◌∷◌, length, Some, Bool, true, false, cond, map}
 use Rattle.std.specs.List.{AllByRecursion}
 use Rattle.std.specs.Rc.{rc_str_bytes}
 use Rattle.std.specs.declared.alloc.Global.{Global}
@@ -13,7 +13,7 @@ use Rattle.cedar_grammar.specs.Token.{Mark, Token, word, text, mark, word_of}
 use Rattle.cedar_grammar.specs.Tokens.{IsTokens}
 use Rattle.cedar_grammar.specs.Build.{Keyed}
 use Rattle.cedar_grammar.specs.Escape.{string_of}
-use Rattle.cedar_grammar.specs.Grammar.{Rule, Inner, Ids, Items, Entry, Unary, Within}
+use Rattle.cedar_grammar.specs.Grammar.{Rule, Inner, Ids, Items, Entry, Unary, Within, inner}
 use Rattle.cedar_grammar.specs.Names.{Names}
 use Rattle.cedar_grammar.specs.Policies.{ReadsExpr}
 use Rattle.cedar_restricted.specs.Views.{restricted_tree}
@@ -41,15 +41,26 @@ pub record IsDataText (names : Names) (n : ℕ) (bytes : Text) (body : Restricte
 
 -- ---- on the way there
 
--- the text begins with this expression by the rule, and it is data, no higher than so much
-pub record ReadsData (rule : Rule Tree) (n : ℕ) (bytes : Text) (e : Expr (Unit {0})) (rest : Text) : Type 0 where
-  pub reads : Reads rule bytes (bare e) rest
-  pub is_data : IsData n (bare e)
+-- the text begins with this tree by the rule, and it is data, no higher than so much
+pub record ReadsTree (rule : Rule Tree) (n : ℕ) (bytes : Text) (t : Tree) (rest : Text) : Type 0 where
+  pub reads : Reads rule bytes t rest
+  pub is_data : IsData n t
+
+-- the same of an expression
+abbrev pub ReadsData : Rule Tree → ℕ → Text → Expr (Unit {0}) → Text → Type 0
+ReadsData rule n bytes e rest = ReadsTree rule n bytes (bare e) rest
+
+-- the text begins with this operand, inside which nothing nests
+abbrev pub ReadsLeaf : Text → Tree → Text → Type 0
+ReadsLeaf bytes t rest = (n : ℕ) (names : Names) → ReadsTree (Unary (inner names n)) (suc n) bytes t rest
+
+-- an operand, of which the first identifier was taken
+abbrev pub Behind : Inner → Text → Rule Tree
+Behind i first ts t us = Unary i (word (word_of first) ∷ ts) t us
 
 -- the text behind a first identifier makes this expression with it, and it is data, no higher than so much
-pub record ReadsBehind (i : Inner) (n : ℕ) (first bytes : Text) (e : Expr (Unit {0})) (rest : Text) : Type 0 where
-  pub reads : Reads (λ ts t us. Unary i (word (word_of first) ∷ ts) t us) bytes (bare e) rest
-  pub is_data : IsData n (bare e)
+abbrev pub ReadsBehind : Inner → ℕ → Text → Text → Expr (Unit {0}) → Text → Type 0
+ReadsBehind i n first bytes e rest = ReadsTree (Behind i first) n bytes (bare e) rest
 
 -- a separator where the string of an entity follows a path
 abbrev pub ended : Bool → List Token → List Token

@@ -1,24 +1,23 @@
 // Numbers, names and entities.
-ghost use Rattle.std.specs.Prelude.{◌≡◌, ◌≢◌, ◌<◌, ◌≤◌, ◌^◌, ◌++◌, [], ◌∷◌, ℕ, Bool, suc, IfOk, IfNone, IfSome, codes, cond, pos, neg_ℤ};
+ghost use Rattle.std.specs.Prelude.{◌≡◌, ◌≢◌, ◌<◌, ◌≤◌, ◌^◌, Bool, IfOk, IfNone, IfSome, codes, cond, pos, neg_ℤ};
 ghost use Rattle.cedar_language.specs.Tree as tree;
 ghost use Rattle.cedar_grammar.specs.Build.{long};
 ghost use Rattle.cedar_literals.specs.Literals.{literal_of};
-ghost use Rattle.cedar_grammar.specs.Grammar.{Unary, inner};
-ghost use Rattle.cedar_grammar.specs.Names.{Names};
 ghost use Rattle.cedar_grammar.specs.Token.{number, word, word_of};
 ghost use Rattle.cedar_names.specs.Identifiers.{IsUnreservedId};
-ghost use Rattle.cedar_trees.specs.Bare.{bare};
-ghost use Rattle.cedar_data.specs.Data.{ReadsData, ReadsPathTo, ReadsKey};
+ghost use Rattle.cedar_data.specs.Data.{ReadsLeaf, ReadsPathTo, ReadsKey};
 ghost use Rattle.cedar_data.specs.Takes.{Takes};
 
+use crate::names::name_of;
 use crate::reader::Reader;
 use crate::texts::Sign;
+use crate::type_names::TypeNames;
 use crate::unread::Unread;
 use cedar_literals::literals::Literal;
 use cedar_literals::uids::{Eid, EntityType, EntityUID};
-use cedar_names::identifiers::{Id, is_normalized_ident};
-use cedar_names::names::{InternalName, Name};
-use cedar_trees::expr::Expr;
+use cedar_names::comparing::is_same;
+use cedar_names::identifiers::is_normalized_ident;
+use cedar_names::names::Name;
 use std::alloc::{AllocError, Global};
 use std::rc::{Rc, RcStr};
 
@@ -34,13 +33,13 @@ pub enum Path {
 /// The least number that is no long.
 const TOO_LARGE: u64 = 0x8000_0000_0000_0000;
 
-/// The entity of this type and id; refused for memory alone.
-pub fn entity(alloc: Global, entity_type: Name, id: &str) -> Result<Expr, AllocError>
-    ensures { IfOk result (λ made. bare made ≡ tree.Lit (tree.Entity (record { type_name = entity_type; id = id.now }))) }
+/// The uid of this type and id; refused for memory alone.
+pub fn uid_of(alloc: Global, entity_type: Name, id: &str) -> Result<Rc<EntityUID>, AllocError>
+    ensures { IfOk result (λ uid. uid.value ≡ record { type_name = entity_type; id = id.now }) }
 {
     let eid = Eid::new(RcStr::from_str(alloc, id)?);
     let uid = EntityUID::from_components(EntityType::from(entity_type), eid, None);
-    Ok(Expr::val(Literal::EntityUID(Rc::new(alloc, uid)?)))
+    Ok(Rc::new(alloc, uid)?)
 }
 
 // The number, where it is a long.
@@ -69,43 +68,27 @@ fn minus(number: u64) -> Option<Literal>
     }
 }
 
-// The identifier of this text; refused for memory alone.
-fn id_of(alloc: Global, text: &str) -> Result<Id, AllocError>
-    requires { IsUnreservedId text.now }
-    ensures { IfOk result (λ id. id ≡ text.now) }
-{
-    Ok(Id::new_unchecked(RcStr::from_str(alloc, text)?))
-}
-
-// The name of these identifiers, none of which is reserved.
-fn name_of(alloc: Global, namespace: Vec<Id>, basename: Id) -> Result<Name, Unread>
-    ensures { IfOk result (λ name. name ≡ namespace.items ++ basename ∷ []) }
-{
-    match Name::try_from(InternalName::new(alloc, basename, namespace, None)?) {
-        Ok(name) => Ok(name),
-        Err(_) => Err(Unread::Other),
-    }
-}
-
 /// The Boolean that is so written; none where none is.
 pub fn boolean(word: &str) -> Option<bool>
     ensures written { IfSome result (λ value. word.now ≡ cond value (codes "true") (codes "false")) }
     ensures none { IfNone result ((value : Bool) → word.now ≢ cond value (codes "true") (codes "false")) }
 {
-    match word {
-        "true" => Some(true),
-        "false" => Some(false),
-        _ => None,
+    if is_same(word, "true") {
+        Some(true)
+    } else if is_same(word, "false") {
+        Some(false)
+    } else {
+        None
     }
 }
 
 impl<'t> Reader<'t> {
-    /// Takes a string, which has to be next.
-    pub fn string_literal(&mut self, alloc: Global) -> Result<Expr, Unread>
-        ensures { IfOk result (λ e. (names : Names) (n : ℕ) → ReadsData (Unary (inner names n)) (suc n) self.old e self.new) }
+    // Takes a string, which has to be next.
+    fn string_literal(&mut self, alloc: Global) -> Result<Literal, Unread>
+        ensures { IfOk result (λ l. ReadsLeaf self.old (tree.Lit (literal_of l)) self.new) }
     {
         let text = self.string()?;
-        Ok(Expr::val(Literal::String(RcStr::from_str(alloc, text)?)))
+        Ok(Literal::String(RcStr::from_str(alloc, text)?))
     }
 
     // Takes a number, which has to be next.
@@ -119,26 +102,37 @@ impl<'t> Reader<'t> {
         }
     }
 
-    /// Takes a long without a sign, which has to be next.
-    pub fn positive(&mut self) -> Result<Expr, Unread>
-        ensures { IfOk result (λ e. (names : Names) (n : ℕ) → ReadsData (Unary (inner names n)) (suc n) self.old e self.new) }
+    // Takes a long without a sign, which has to be next.
+    fn positive(&mut self) -> Result<Literal, Unread>
+        ensures { IfOk result (λ l. ReadsLeaf self.old (tree.Lit (literal_of l)) self.new) }
     {
         let number = self.number()?;
         match plus(number) {
-            Some(long) => Ok(Expr::val(long)),
+            Some(long) => Ok(long),
             None => Err(Unread::Other),
         }
     }
 
-    /// Takes a long with a minus, which has to be next.
-    pub fn negative(&mut self) -> Result<Expr, Unread>
-        ensures { IfOk result (λ e. (names : Names) (n : ℕ) → ReadsData (Unary (inner names n)) (suc n) self.old e self.new) }
+    // Takes a long with a minus, which has to be next.
+    fn negative(&mut self) -> Result<Literal, Unread>
+        ensures { IfOk result (λ l. ReadsLeaf self.old (tree.Lit (literal_of l)) self.new) }
     {
         self.expect(Sign::Minus)?;
         let number = self.number()?;
         match minus(number) {
-            Some(long) => Ok(Expr::val(long)),
+            Some(long) => Ok(long),
             None => Err(Unread::Other),
+        }
+    }
+
+    /// Takes a string or a long, which has to be next.
+    pub fn literal(&mut self, alloc: Global) -> Result<Literal, Unread>
+        ensures { IfOk result (λ l. ReadsLeaf self.old (tree.Lit (literal_of l)) self.new) }
+    {
+        match self.next_byte() {
+            b'"' => Ok(self.string_literal(alloc)?),
+            b'-' => Ok(self.negative()?),
+            _ => Ok(self.positive()?),
         }
     }
 
@@ -169,22 +163,28 @@ impl<'t> Reader<'t> {
     }
 
     /// Takes what follows the first identifier of a path, with the separator before the string of an
-    /// entity.
-    pub fn path(&mut self, alloc: Global, first: &str) -> Result<Path, Unread>
+    /// entity. The names of types are shared with those that were read before.
+    pub fn path(
+        &mut self,
+        alloc: Global,
+        types: &mut TypeNames,
+        first: &'t str,
+    ) -> Result<Path, Unread>
         requires { IsUnreservedId first.now }
         ensures { IfOk result (λ path. ReadsPathTo first.now self.old path self.new) }
     {
         let mut namespace = Vec::new(alloc);
-        let mut last = id_of(alloc, first)?;
+        let mut last = first;
         'path: while self.eat_separator() {
             if self.next_byte() == b'"' {
-                return Ok(Path::EntityType(name_of(alloc, namespace, last)?));
+                let name = types.name(alloc, &namespace, last)?;
+                return Ok(Path::EntityType(name));
             }
             namespace.push(last)?;
             let next = self.identifier()?;
-            let id = id_of(alloc, next)?;
-            last = id;
+            last = next;
         }
-        Ok(Path::Called(name_of(alloc, namespace, last)?))
+        let name = name_of(alloc, &namespace, last)?;
+        Ok(Path::Called(name))
     }
 }

@@ -3,6 +3,7 @@ ghost use Rattle.std.specs.Prelude.{◌≡◌, IfOk, IfSome};
 ghost use Rattle.cedar_data.specs.Data.{IsDataText};
 
 use crate::reader::Reader;
+use crate::type_names::TypeNames;
 use crate::unread::Unread;
 use cedar_faults::ExtStyles;
 use cedar_restricted::restricted::RestrictedExpr;
@@ -17,12 +18,13 @@ pub fn read_data(
     alloc: Global,
     text: &str,
     styles: &ExtStyles,
+    types: &mut TypeNames,
     depth: u32,
 ) -> Result<Option<RestrictedExpr>, AllocError>
     ensures { IfOk result (λ found. IfSome found (λ body. IsDataText styles.now depth text.now body)) }
 {
     let mut reader = Reader::new(text);
-    match reader.data(alloc, styles, depth) {
+    match reader.data(alloc, styles, types, depth) {
         Ok(expr) => {
             if reader.is_at_end() {
                 Ok(Some(RestrictedExpr::new_unchecked(expr)))

@@ -21,12 +21,12 @@ mod LeftSets
 pub mod Twice
 mod CopiedParts
 mod Again
+mod Unmet
 mod Scoped
 mod Judged
 mod ReadConditions
 mod ScopeDepths
 mod Deepening
-mod Unmet
 mod OutOfScope
 mod Thinned
 mod Listed

@@ -1,5 +1,5 @@
 -- What the scope of a policy asks, decided by the entities that are given.
-use Rattle.std.proofs.Common.{◌≡◌, Bool, true, false, Option, Some, None, option_map, map, refl, sym, ◌∙◌, ap, subst}
+use Rattle.std.proofs.Common.{◌≡◌, Bool, true, false, Option, Some, None, is_some, option_map, map, refl, sym, ◌∙◌, ap, subst}
 use Rattle.std.specs.Borrow.{Bor}
 use Rattle.std.specs.Option.{option_copied}
 use Rattle.cedar_language.specs.Uid.{Name, Uid}
@@ -21,7 +21,9 @@ use Rattle.cedar_value_operators.specs.Operands.{two}
 use Rattle.cedar_operators.specs.Hierarchy.{is_within_entity}
 use Rattle.cedar_operators.specs.Store.{HasFacts}
 use Rattle.cedar_interpreter.specs.Seen.{IsSeen}
-use Rattle.cedar_evaluator.specs.Scopes.{IsDecided, constraint_met, unasked}
+use Rattle.cedar_policy_set.specs.ScopeNaming.{is_settled}
+use Rattle.cedar_evaluator.specs.Scopes.{IsDecided, IsTold, constraint_met, unasked}
+use Rattle.cedar_evaluator.proofs.Unmet.{settled}
 
 -- ---- conjunctions
 
@@ -37,6 +39,17 @@ module _ (facts : Facts) (holds : LeafAnswers) where
   both_decided l r (Some true) None h k = tt
   both_decided l r (Some false) p h k = left_decides l r h
   both_decided l r None p h k = tt
+
+  -- of three the first alone, or the second behind a first that is a Boolean
+  pub false_first : (p a r : Tree) → IsDecided facts holds p (Some false) → IsDecided facts holds (conjunction (conjunction p a) r) (Some false)
+  false_first p a r h = left_decides (conjunction p a) r (left_decides p a h)
+
+  pub false_second : (p a r : Tree) → IsTold facts holds p → IsDecided facts holds a (Some false) → IsDecided facts holds (conjunction (conjunction p a) r) (Some false)
+  false_second p a r (b, told) h = left_decides (conjunction p a) r (by b told)
+    where
+      by : (c : Bool) → IsDecided facts holds p (Some c) → IsDecided facts holds (conjunction p a) (Some false)
+      by true k = both_decided p a (Some true) (Some false) k h
+      by false k = left_decides p a k
 
   -- behind a scope that doesn't hold no clause is read
   pub out_of_scope : (scope : Tree) (body : Option Tree) → partial_in facts holds scope ≡ Evaluated (Plain (Boolean false)) → partial_in facts holds (with_body scope body) ≡ Evaluated (Plain (Boolean false))
@@ -94,6 +107,11 @@ nothing_asked facts holds v s (within t) = tt
 nothing_asked facts holds v s (of_type name) = tt
 nothing_asked facts holds v s (of_type_within name t) = tt
 
+-- so it is told
+pub nothing_told : (facts : Facts) (holds : LeafAnswers) (v : Variable) (s : SlotId) (c : Constraint) (o : Option Bool) → o ≡ unasked c → is_some o ≡ true → IsTold facts holds (constraint_tree v s c)
+nothing_told facts holds v s c (Some b) is some = (b, subst (IsDecided facts holds (constraint_tree v s c)) (sym is) (nothing_asked facts holds v s c))
+nothing_told facts holds v s c None is some = absurd (cc some)
+
 -- ---- the action
 
 module _ (facts : Facts) (holds : LeafAnswers) (u : Uid) (given : holds.variable Action ≡ Evaluated (Plain (Entity u))) where
@@ -125,3 +143,10 @@ module _ (facts : Facts) (store : Entities) (has : HasFacts store facts) (u : Ui
       IsDecided facts holds (action_tree c) (Some (action_meets (λ a. is_within_entity u (option_copied o)) c u))
   action_held holds c given =
       subst (λ (test : Uid → Bool). IsDecided facts holds (action_tree c) (Some (action_meets (λ a. test) c u))) (sym test_is) (action_decided facts holds u given c)
+
+  -- where its slot is bound it is met or not
+  pub constraint_told : (holds : LeafAnswers) (v : Variable) (s : SlotId) (bound : Option Uid) (c : Constraint) → holds.variable v ≡ Evaluated (Plain (Entity u)) → holds.slot s ≡ answer_of (slot_outcome bound) →
+      is_settled bound c ≡ true → IsTold facts holds (constraint_tree v s c)
+  constraint_told holds v s bound c given binds is =
+      let (b, met) = settled (is_within_entity u (option_copied o)) u bound c is in
+      (b, subst (IsDecided facts holds (constraint_tree v s c)) met (constraint_held holds v s bound c given binds))

@@ -21,6 +21,10 @@ abbrev pub IsDecided : Facts → LeafAnswers → Tree → Option Bool → Type 0
 IsDecided facts holds t None = ⊤
 IsDecided facts holds t (Some b) = partial_in facts holds t ≡ Evaluated (Plain (Boolean b))
 
+-- the tree is a Boolean
+abbrev pub IsTold : Facts → LeafAnswers → Tree → Type 0
+IsTold facts holds t = (b : Bool) × IsDecided facts holds t (Some b)
+
 -- the entity that stands for a variable, and what the store holds of it
 abbrev pub IsGivenAs : Entities → Answer → Option GivenEntity → Type 0
 IsGivenAs store a given = IfSome given (λ g. (a ≡ Evaluated (Plain (Entity g.uid.now))) × IsSeen store g.uid.now (option_copied g.entity))

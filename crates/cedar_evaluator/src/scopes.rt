@@ -1,6 +1,6 @@
 // The scopes of policies, decided by the entities that a request gives. What looks at a scope is inlined, since
 // each policy in force is asked so.
-ghost use Rattle.std.specs.Prelude.{◌≡◌, ℕ, Some, true};
+ghost use Rattle.std.specs.Prelude.{◌≡◌, ℕ, Some, true, false};
 ghost use Rattle.std.specs.List.{list_any};
 ghost use Rattle.std.specs.Option.{option_map, option_copied};
 ghost use Rattle.cedar_language.specs.Facts.{Facts};
@@ -18,7 +18,8 @@ ghost use Rattle.cedar_operators.specs.Hierarchy.{is_within_entity};
 ghost use Rattle.cedar_operators.specs.Store.{HasFacts};
 ghost use Rattle.cedar_evaluator.specs.Asking.{Inquiry, request_held, IsEvaluatorOf};
 ghost use Rattle.cedar_policies.specs.Policies.{bindings_of, policy_syntax};
-ghost use Rattle.cedar_evaluator.specs.Scopes.{IsDecided, IsGivenAs, AreScopesOf, constraint_met, unasked};
+ghost use Rattle.cedar_policy_set.specs.ScopeNaming.{is_settled};
+ghost use Rattle.cedar_evaluator.specs.Scopes.{IsDecided, IsTold, IsGivenAs, AreScopesOf, constraint_met, unasked};
 
 use cedar_entities::store::Entities;
 use cedar_extensions::objects::ExtensionFunctionObject;
@@ -133,6 +134,34 @@ fn part_meets(
     }
 }
 
+// Whether the slot that a scope names, if it does, is bound.
+#[inline(always)]
+fn is_settled(constraint: &PrincipalOrResourceConstraint, bound: Option<&EntityUID>) -> bool
+    ensures { result ≡ is_settled (option_copied bound.entry) (constraint_of constraint.now) }
+{
+    match constraint {
+        PrincipalOrResourceConstraint::Any | PrincipalOrResourceConstraint::Is(_) => true,
+        PrincipalOrResourceConstraint::Eq(named)
+        | PrincipalOrResourceConstraint::In(named)
+        | PrincipalOrResourceConstraint::IsIn(_, named) => named.uid_or_bound(bound).is_some(),
+    }
+}
+
+// Whether `part_meets` tells of it.
+#[inline(always)]
+fn is_part_told(
+    given: &Option<GivenEntity<'_, '_>>,
+    constraint: &PrincipalOrResourceConstraint,
+    bound: Option<&EntityUID>,
+) -> bool
+    ensures { (facts : Facts) (store : Store) (holds : LeafAnswers) (v : Variable) (s : Slot) → HasFacts store facts → IsGivenAs store (holds.variable v) given.now → holds.slot s ≡ answer_of (slot_outcome (option_copied bound.entry)) → result ≡ true → IsTold facts holds (constraint_tree v s (constraint_of constraint.now)) }
+{
+    match given {
+        Some(_) => is_settled(constraint, bound),
+        None => without_entity(constraint).is_some(),
+    }
+}
+
 // What a scope asks of the action, as far as it is decided.
 fn action_meets(given: &Option<GivenEntity<'_, '_>>, constraint: &ActionConstraint) -> Option<bool>
     ensures { (facts : Facts) (store : Store) (holds : LeafAnswers) → HasFacts store facts → IsGivenAs store (holds.variable Action) given.now → IsDecided facts holds (action_tree (action_of constraint.now)) result }
@@ -193,28 +222,61 @@ impl<'v> Scopes<'v> {
         part_meets(&self.resource, constraint.as_inner(), bound)
     }
 
+    // Whether it is told of the principal that it is as the scope asks, or that it isn't. Nothing is looked up.
+    #[inline(always)]
+    fn is_principal_told(&self, policy: &Policy) -> bool
+        ensures { (i : Inquiry) (store : Store) (facts : Facts) → AreScopesOf i store self.now → HasFacts store facts → result ≡ true → IsTold facts (request_held i (bindings_of policy.now)) (constraint_tree Principal PrincipalSlot (policy_syntax policy.now).principal) }
+    {
+        let constraint = policy.template().principal_constraint();
+        let bound = policy.env().get(&SlotId::principal());
+        is_part_told(&self.principal, constraint.as_inner(), bound)
+    }
+
     /// Whether the scope of a policy holds, read from the left: the principal, the action, the resource. Not
     /// said where the request doesn't give what decides it.
+    // The action is looked at first: of the policies that are found by the principal most ask for another one.
     #[inline(always)]
     pub(crate) fn hold(&self, policy: &Policy) -> Option<bool>
         ensures { (i : Inquiry) (store : Store) (facts : Facts) → AreScopesOf i store self.now → HasFacts store facts → IsDecided facts (request_held i (bindings_of policy.now)) (scope_tree (policy_syntax policy.now)) result }
     {
+        match self.action_meets(policy) {
+            Some(true) => self.hold_for_action(policy),
+            Some(false) => self.fail_for_action(policy),
+            None => self.hold_by_principal(policy),
+        }
+    }
+
+    // The same of a policy whose scope the action meets.
+    #[inline(always)]
+    fn hold_for_action(&self, policy: &Policy) -> Option<bool>
+        ensures { (i : Inquiry) (store : Store) (facts : Facts) → AreScopesOf i store self.now → HasFacts store facts → IsDecided facts (request_held i (bindings_of policy.now)) (action_tree (policy_syntax policy.now).action) (Some true) → IsDecided facts (request_held i (bindings_of policy.now)) (scope_tree (policy_syntax policy.now)) result }
+    {
         match self.principal_meets(policy) {
-            Some(true) => self.hold_behind_principal(policy),
+            Some(true) => self.resource_meets(policy),
             Some(false) => Some(false),
             None => None,
         }
     }
 
-    // The same of a policy whose principal is as its scope asks.
+    // The same of a policy whose scope the action doesn't meet: false, once the principal before it is told.
     #[inline(always)]
-    fn hold_behind_principal(&self, policy: &Policy) -> Option<bool>
-        ensures { (i : Inquiry) (store : Store) (facts : Facts) → AreScopesOf i store self.now → HasFacts store facts → IsDecided facts (request_held i (bindings_of policy.now)) (constraint_tree Principal PrincipalSlot (policy_syntax policy.now).principal) (Some true) → IsDecided facts (request_held i (bindings_of policy.now)) (scope_tree (policy_syntax policy.now)) result }
+    fn fail_for_action(&self, policy: &Policy) -> Option<bool>
+        ensures { (i : Inquiry) (store : Store) (facts : Facts) → AreScopesOf i store self.now → HasFacts store facts → IsDecided facts (request_held i (bindings_of policy.now)) (action_tree (policy_syntax policy.now).action) (Some false) → IsDecided facts (request_held i (bindings_of policy.now)) (scope_tree (policy_syntax policy.now)) result }
     {
-        match self.action_meets(policy) {
-            Some(true) => self.resource_meets(policy),
+        if self.is_principal_told(policy) {
+            Some(false)
+        } else {
+            None
+        }
+    }
+
+    // The same where the action isn't told: the principal alone decides, where it doesn't meet the scope.
+    fn hold_by_principal(&self, policy: &Policy) -> Option<bool>
+        ensures { (i : Inquiry) (store : Store) (facts : Facts) → AreScopesOf i store self.now → HasFacts store facts → IsDecided facts (request_held i (bindings_of policy.now)) (scope_tree (policy_syntax policy.now)) result }
+    {
+        match self.principal_meets(policy) {
             Some(false) => Some(false),
-            None => None,
+            Some(true) | None => None,
         }
     }
 }

@@ -33,7 +33,7 @@ head_lacks_feed line verb len h =
     subst (λ l. lacks 10 l ≡ true) (sym h.1) (lacks-append 10 (verb_name verb) (32 ∷ h.0) (name_lacks_feed verb) tail)
 
 -- the parts of what stands behind a line feed
-behind_feed : (line x : List ℕ) → (line ++ 10 ∷ []) ++ x ≡ line ++ 10 ∷ x
+pub behind_feed : (line x : List ℕ) → (line ++ 10 ∷ []) ++ x ≡ line ++ 10 ∷ x
 behind_feed line x = append_assoc line (10 ∷ []) x
 
 same_line : (line line' x y : List ℕ) → lacks 10 line ≡ true → lacks 10 line' ≡ true → (line ++ 10 ∷ []) ++ x ≡ (line' ++ 10 ∷ []) ++ y → (line ≡ line') × (x ≡ y)
@@ -56,10 +56,10 @@ same_part a b x y n e = (
 )
 
 -- what stands behind the head line of a frame
-behind_head : (head body x : List ℕ) (byte : ℕ) → ((head ++ body) ++ byte ∷ []) ++ x ≡ head ++ (body ++ byte ∷ x)
+pub behind_head : (head body x : List ℕ) (byte : ℕ) → ((head ++ body) ++ byte ∷ []) ++ x ≡ head ++ (body ++ byte ∷ x)
 behind_head head body x byte = append_assoc (head ++ body) (byte ∷ []) x ∙ append_assoc head body (byte ∷ x)
 
-opened : (frame x : List ℕ) (verb : Verb) (body : List ℕ) (f : IsFrame frame verb body) → frame ++ x ≡ f.head ++ (body ++ 10 ∷ x)
+pub opened : (frame x : List ℕ) (verb : Verb) (body : List ℕ) (f : IsFrame frame verb body) → frame ++ x ≡ f.head ++ (body ++ 10 ∷ x)
 opened frame x verb body f = ap (λ l. l ++ x) f.is ∙ behind_head f.head body x 10
 
 overrun_opened : (shown x : List ℕ) (w : IsOverrun shown) → shown ++ x ≡ w.head ++ (w.body ++ w.byte ∷ x)
@@ -99,7 +99,7 @@ frames_are_one ((verb, body) ∷ cs) ((verb', body') ∷ ds) a b x y p q n e =
 -- ---- faults
 
 -- a line feed that stands further in front
-feed_within : (shown behind line more : List ℕ) → lacks 10 shown ≡ true → length line < length shown → shown ++ behind ≡ line ++ 10 ∷ more → ⊥
+pub feed_within : (shown behind line more : List ℕ) → lacks 10 shown ≡ true → length line < length shown → shown ++ behind ≡ line ++ 10 ∷ more → ⊥
 feed_within [] behind line more p h e = omega (arith, h)
 feed_within (c ∷ s) behind [] more p h e = let same : c ≡ 10 = cc in let r = and_parts (not (c == 10)) (lacks 10 s) p in grind (arith, common_steps)
 feed_within (c ∷ s) behind (d ∷ line) more p h e =
@@ -107,7 +107,7 @@ feed_within (c ∷ s) behind (d ∷ line) more p h e =
     feed_within s behind line more (and_parts (not (c == 10)) (lacks 10 s) p).1 (omega (arith, h)) tails
 
 -- the first line of what a head line opens
-first_line : (head x : List ℕ) (verb : Verb) (len : ℕ) (h : IsHeadLine head verb len) → head ++ x ≡ h.line ++ 10 ∷ x
+pub first_line : (head x : List ℕ) (verb : Verb) (len : ℕ) (h : IsHeadLine head verb len) → head ++ x ≡ h.line ++ 10 ∷ x
 first_line head x verb len h = ap (λ l. l ++ x) h.is ∙ behind_feed h.line x
 
 endless_opens_none : (shown behind head x : List ℕ) (verb : Verb) (len : ℕ) → IsEndless shown → IsHeadLine head verb len → shown ++ behind ≢ head ++ x
@@ -115,7 +115,7 @@ endless_opens_none shown behind head x verb len w h e =
     let short = h.short in
     feed_within shown behind h.line x w.1 (omega (arith, w.0, short)) (e ∙ first_line head x verb len h)
 
-bad_line_opens_none : (shown behind head x : List ℕ) (verb : Verb) (len : ℕ) → IsBadLine shown → IsHeadLine head verb len → shown ++ behind ≢ head ++ x
+pub bad_line_opens_none : (shown behind head x : List ℕ) (verb : Verb) (len : ℕ) → IsBadLine shown → IsHeadLine head verb len → shown ++ behind ≢ head ++ x
 bad_line_opens_none shown behind head x verb len w h e =
     let split : w.line ++ 10 ∷ behind ≡ h.line ++ 10 ∷ x = sym (behind_feed w.line behind) ∙ sym (ap (λ l. l ++ behind) w.is) ∙ e ∙ first_line head x verb len h in
     let same = first_split 10 w.line behind h.line x w.whole (head_lacks_feed h.line verb len h.head) split in
@@ -127,7 +127,7 @@ bad_opens_none shown behind head x verb len is h e =
     elim is [ inl w ↦ endless_opens_none shown behind head x verb len w h e | inr w ↦ bad_line_opens_none shown behind head x verb len w h e ]
 
 -- a head line says one length
-long_opens_none : (shown behind head x : List ℕ) (verb : Verb) (len : ℕ) → IsFault TooLong shown → IsHeadLine head verb len → len ≤ body_limit → shown ++ behind ≢ head ++ x
+pub long_opens_none : (shown behind head x : List ℕ) (verb : Verb) (len : ℕ) → IsFault TooLong shown → IsHeadLine head verb len → len ≤ body_limit → shown ++ behind ≢ head ++ x
 long_opens_none shown behind head x verb len is h fits e =
     let same = same_head shown head behind x is.0 verb is.1 len is.2 h e in omega (arith, same.2, is.3, fits)
 
@@ -136,7 +136,7 @@ part_opens_none : (shown head x : List ℕ) (verb : Verb) (len : ℕ) → IsPart
 part_opens_none shown head x verb len w h e = no_such 10 h.line x (subst (λ l. lacks 10 l ≡ true) (e ∙ first_line head x verb len h) w.1)
 
 -- a part of a body holds no byte behind the body
-open_holds_none : (shown head body x : List ℕ) (byte : ℕ) (verb : Verb) → IsOpenFrame shown → IsHeadLine head verb (length body) → shown ≢ head ++ (body ++ byte ∷ x)
+pub open_holds_none : (shown head body x : List ℕ) (byte : ℕ) (verb : Verb) → IsOpenFrame shown → IsHeadLine head verb (length body) → shown ≢ head ++ (body ++ byte ∷ x)
 open_holds_none shown head body x byte verb w h e =
     let same = same_head w.head head w.part (body ++ byte ∷ x) w.verb verb w.len (length body) w.opens h (sym w.is ∙ e) in
     let short = w.short in
@@ -149,7 +149,7 @@ partial_holds_none shown head body x byte verb is h e =
     elim is [ inl w ↦ part_opens_none shown head (body ++ byte ∷ x) verb (length body) w h e | inr w ↦ open_holds_none shown head body x byte verb w h e ]
 
 -- the last byte of an overrun is no line feed
-overrun_stays : (shown behind frame rest : List ℕ) (verb : Verb) (body : List ℕ) → IsOverrun shown → IsFrame frame verb body → shown ++ behind ≢ frame ++ rest
+pub overrun_stays : (shown behind frame rest : List ℕ) (verb : Verb) (body : List ℕ) → IsOverrun shown → IsFrame frame verb body → shown ++ behind ≢ frame ++ rest
 overrun_stays shown behind frame rest verb body w f e =
     let split : w.head ++ (w.body ++ w.byte ∷ behind) ≡ f.head ++ (body ++ 10 ∷ rest) = sym (overrun_opened shown behind w) ∙ e ∙ opened frame rest verb body f in
     let same = same_head w.head f.head (w.body ++ w.byte ∷ behind) (body ++ 10 ∷ rest) w.verb verb (length w.body) (length body) w.opens f.opens split in

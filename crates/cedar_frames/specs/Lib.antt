@@ -6,3 +6,4 @@ pub mod Quoting
 pub mod Reading
 pub mod Watching
 pub mod Writing
+pub mod Ahead

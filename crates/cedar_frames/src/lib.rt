@@ -10,10 +10,12 @@ mod fault;
 mod frame;
 mod head;
 mod laws;
+mod looking;
 mod quoting;
 mod reading;
 mod verb;
 mod watched;
+mod whole;
 mod writing;
 
 pub use fault::Fault;
@@ -27,4 +29,5 @@ pub use quoting::{put_escaped, put_quoted};
 pub use reading::{ReadFailed, read_byte};
 pub use verb::Verb;
 pub use watched::Watched;
+pub use whole::{WholeFrame, whole_frame};
 pub use writing::put;

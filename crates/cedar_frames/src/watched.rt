@@ -1,11 +1,16 @@
 // A reader or a writer, and what became of its calls.
-ghost use Rattle.std.specs.Prelude.{◌≡◌, false, length, is_err, ◌&&◌, ◌||◌};
+ghost use Rattle.std.specs.Prelude.{◌≡◌, [], ◌≤◌, ◌<◌, ℕ, List, false, length, take, is_err, ◌&&◌, ◌||◌, IfOk, OnErr};
 ghost use Rattle.std.specs.Io.{ReadsAtMost, WritesAtMost};
 ghost use Rattle.std.specs.Io.KnownBytes.{Keeps, ReadConsumes, WriteAppends};
+ghost use Rattle.cedar_frames.specs.Reading.{Reads, IsReadOut};
+ghost use Rattle.cedar_frames.specs.Ahead.{Shows};
+ghost use Rattle.cedar_frames.specs.declared.watched.Watched.{Watched as Watch};
 ghost use Rattle.cedar_frames.specs.Watching.{watched_inner, watched_failed, watched_late, watched_unsent, write_fails, writes_some};
 
+use crate::looking::copy_ahead;
+use crate::reading::ReadFailed;
 use std::io;
-use std::io::{Read, Write};
+use std::io::{BufRead, Read, Write};
 
 /// What became of a device's calls.
 #[derive(Clone, Copy, Debug)]
@@ -83,6 +88,37 @@ impl<R: Read> Read for Watched<R> {
         let outcome = self.inner.read(buf);
         self.note(outcome.is_err());
         outcome
+    }
+}
+
+impl<R: BufRead> Watched<R> {
+    /// Copies the bytes that were read ahead, as many as there is room for, and says how many: none only at the end of
+    /// the input, or without room. Where none was read ahead more is read first. None is consumed.
+    ///
+    /// An error is answered only where the reader has failed.
+    pub fn peek(&mut self, buf: &mut [u8]) -> Result<usize, ReadFailed>
+        ensures within { IfOk result (λ count. count ≤ length buf.new) }
+        ensures ahead { IfOk result (λ count. Shows R.remaining R.consumable_len self.old self.new (take count buf.new)) }
+        ensures end { IfOk result (λ count. count ≡ 0 → 0 < length buf.new → IsReadOut R.remaining self.old) }
+        ensures err { OnErr result (Reads R.remaining self.old self.new []) }
+        ensures failed { watched_failed self.new ≡ (is_err result || watched_failed self.old) }
+        ensures late { watched_late self.new ≡ watched_failed self.old }
+        ensures unsent { watched_unsent self.new ≡ watched_unsent self.old }
+    {
+        let outcome = copy_ahead(&mut self.inner, buf);
+        self.note(outcome.is_err());
+        outcome
+    }
+
+    /// Consumes so many of the bytes that were read ahead. None is read, and no call is made that may fail.
+    pub fn consume(&mut self, amount: usize)
+        ensures bytes { (before : Watch R) (ahead : List ℕ) → Shows R.remaining R.consumable_len before self.old ahead
+            → amount ≤ length ahead → Reads R.remaining before self.new (take amount ahead) }
+        ensures failed { watched_failed self.new ≡ watched_failed self.old }
+        ensures late { watched_late self.new ≡ watched_late self.old }
+        ensures unsent { watched_unsent self.new ≡ watched_unsent self.old }
+    {
+        self.inner.consume(amount);
     }
 }
 

@@ -1,5 +1,5 @@
 -- The walk over the entries of a question.
-use Rattle.std.proofs.Common.{◌≡◌, Bool, true, false, ◌∷◌, refl, sym, ◌∙◌}
+use Rattle.std.proofs.Common.{◌≡◌, ◌≢◌, Bool, true, false, ◌∷◌, refl, sym, ◌∙◌}
 use Rattle.std.specs.Prelude.{codes}
 use Rattle.std.specs.Option.{option_or}
 use Rattle.std.specs.Cmp.Lexicographic.{same_text, texts_ties}
@@ -8,7 +8,10 @@ use Rattle.cedar_language.specs.Uid.{Text}
 use Rattle.cedar_world.specs.Orders.{text_eq}
 use Rattle.cedar_world.specs.Bodies.{Fields, found, are_among, question_keys}
 use Rattle.cedar_held.specs.Lent.{tree_in}
+use Rattle.cedar_held.specs.Questions.{key_spelled}
 use Rattle.cedar_held.specs.declared.questions.QuestionFields.{QuestionFields}
+use Rattle.cedar_held.specs.declared.questions.QuestionKey.{QuestionKey}
+use Rattle.cedar_held.specs.declared.questions.QuestionKey.TheVariants.{Principal, PrincipalType, Action, Resource, ResourceType, Context}
 
 -- what stands beside each key was found already, or else stands among the fields to come
 pub record FoundSoFar (fs rest : Fields) (q : QuestionFields) : Type 0 where
@@ -28,16 +31,13 @@ differs k key n = by (text_eq k key) refl
     by false e = refl
 
 -- where another key than a question's stands first, not all keys are a question's
-pub another_key : (key : Text) (t : Tree) (rest : Fields)
-    → (key ≡ codes "principal" → ⊥) → (key ≡ codes "principal_type" → ⊥) → (key ≡ codes "action" → ⊥)
-    → (key ≡ codes "resource" → ⊥) → (key ≡ codes "resource_type" → ⊥) → (key ≡ codes "context" → ⊥)
-    → are_among question_keys ((key, t) ∷ rest) ≡ false
-another_key key t rest p pt a r rt c =
+pub another_key : (key : Text) (t : Tree) (rest : Fields) → ((asked : QuestionKey) → key ≢ key_spelled asked) → are_among question_keys ((key, t) ∷ rest) ≡ false
+another_key key t rest other =
     rw (
-      differs (codes "principal") key p,
-      differs (codes "principal_type") key pt,
-      differs (codes "action") key a,
-      differs (codes "resource") key r,
-      differs (codes "resource_type") key rt,
-      differs (codes "context") key c,
+      differs (codes "principal") key (other Principal),
+      differs (codes "principal_type") key (other PrincipalType),
+      differs (codes "action") key (other Action),
+      differs (codes "resource") key (other Resource),
+      differs (codes "resource_type") key (other ResourceType),
+      differs (codes "context") key (other Context),
     ) refl

@@ -13,6 +13,8 @@ use Rattle.cedar_held.specs.declared.questions.AskBody.{AskBody}
 use Rattle.cedar_held.specs.declared.questions.AskedPart.{AskedPart}
 use Rattle.cedar_held.specs.declared.questions.AskedPart.TheVariants.{Given, Missing}
 use Rattle.cedar_held.specs.declared.questions.QuestionFields.{QuestionFields}
+use Rattle.cedar_held.specs.declared.questions.QuestionKey.{QuestionKey}
+use Rattle.cedar_held.specs.declared.questions.QuestionKey.TheVariants.{Principal, PrincipalType, Action, Resource, ResourceType, Context}
 use Rattle.cedar_held.specs.Lent.{tree_in}
 
 -- the context that a record is; a call that names an unknown is that unknown
@@ -30,6 +32,15 @@ question_of b = record {
   resource = part_asked b.resource;
   context = unwrap_or (option_map given_context b.context) NoContext;
 }
+
+-- how the key is spelled
+abbrev pub key_spelled : QuestionKey → Text
+key_spelled Principal = codes "principal"
+key_spelled PrincipalType = codes "principal_type"
+key_spelled Action = codes "action"
+key_spelled Resource = codes "resource"
+key_spelled ResourceType = codes "resource_type"
+key_spelled Context = codes "context"
 
 -- in each field is lent what stands beside its key
 pub record LendsEach (fs : Fields) (q : QuestionFields) : Type 0 where

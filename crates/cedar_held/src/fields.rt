@@ -8,6 +8,7 @@ ghost use Rattle.cedar_held.specs.Lent.{fields_in, tree_in};
 
 use crate::literals::{entity_of, entries_of, shared_entity_of, string_of, type_named};
 use cedar_literals::uids::{EntityType, EntityUID};
+use cedar_names::comparing;
 use cedar_trees::expr::Expr;
 use std::alloc::{AllocError, Global};
 use std::collections::BTreeMap;
@@ -16,7 +17,7 @@ use std::rc::{Rc, RcStr};
 fn is_same(text: &str, other: &str) -> bool
     ensures { result ≡ text_eq text.now other.now }
 {
-    text == other
+    comparing::is_same(text, other)
 }
 
 fn is_one_of(keys: &[&str], key: &str) -> bool

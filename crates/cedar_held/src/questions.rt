@@ -1,14 +1,16 @@
 // The body of a question.
-ghost use Rattle.std.specs.Prelude.{◌≡◌, IfOk, IfSome, Some, None, is_some, option_map, codes};
+ghost use Rattle.std.specs.Prelude.{◌≡◌, ◌≢◌, IfOk, IfSome, IfNone, Some, None, is_some, option_map, codes};
 ghost use Rattle.cedar_trees.specs.Bare.{bare};
 ghost use Rattle.cedar_world.specs.Bodies as world;
 ghost use Rattle.cedar_world.specs.Bodies.{Fields};
 ghost use Rattle.cedar_held.specs.Lent.{fields_in, tree_in};
-ghost use Rattle.cedar_held.specs.Questions.{part_asked, question_of, given_context, LendsEach, IsRecordOf, LendsFrom, LendsContext};
+ghost use Rattle.cedar_held.specs.declared.questions.QuestionKey.{QuestionKey};
+ghost use Rattle.cedar_held.specs.Questions.{key_spelled, part_asked, question_of, given_context, LendsEach, IsRecordOf, LendsFrom, LendsContext};
 
 use crate::fields::{entity_if_given, type_if_given};
 use crate::literals::entries_of;
 use cedar_literals::uids::{EntityType, EntityUID};
+use cedar_names::comparing::is_same;
 use cedar_trees::expr::Expr;
 use std::alloc::{AllocError, Global};
 use std::collections::BTreeMap;
@@ -44,6 +46,40 @@ struct QuestionFields<'e> {
     context: Option<&'e Expr>,
 }
 
+// A key that a question may have.
+#[derive(Clone, Copy)]
+enum QuestionKey {
+    Principal,
+    PrincipalType,
+    Action,
+    Resource,
+    ResourceType,
+    Context,
+}
+
+// The key that is so spelled; none where no question has it. These calls are quicker than a `match` on the text, which
+// compares by std's `==`.
+fn question_key(text: &str) -> Option<QuestionKey>
+    ensures spelled { IfSome result (λ key. text.now ≡ key_spelled key) }
+    ensures other { IfNone result ((key : QuestionKey) → text.now ≢ key_spelled key) }
+{
+    if is_same(text, "principal") {
+        Some(QuestionKey::Principal)
+    } else if is_same(text, "action") {
+        Some(QuestionKey::Action)
+    } else if is_same(text, "resource") {
+        Some(QuestionKey::Resource)
+    } else if is_same(text, "context") {
+        Some(QuestionKey::Context)
+    } else if is_same(text, "principal_type") {
+        Some(QuestionKey::PrincipalType)
+    } else if is_same(text, "resource_type") {
+        Some(QuestionKey::ResourceType)
+    } else {
+        None
+    }
+}
+
 // The fields, in one walk over the entries; none where a key stands there that no question has. The first
 // value of a key stays, as where one is looked for.
 fn find_fields(entries: &BTreeMap<RcStr, Expr>) -> Option<QuestionFields<'_>>
@@ -59,14 +95,18 @@ fn find_fields(entries: &BTreeMap<RcStr, Expr>) -> Option<QuestionFields<'_>>
         context: None,
     };
     for (key, value) in entries {
-        match key.as_str() {
-            "principal" => fields.principal = fields.principal.or(Some(value)),
-            "action" => fields.action = fields.action.or(Some(value)),
-            "resource" => fields.resource = fields.resource.or(Some(value)),
-            "context" => fields.context = fields.context.or(Some(value)),
-            "principal_type" => fields.principal_type = fields.principal_type.or(Some(value)),
-            "resource_type" => fields.resource_type = fields.resource_type.or(Some(value)),
-            _ => return None,
+        match question_key(key.as_str()) {
+            Some(QuestionKey::Principal) => fields.principal = fields.principal.or(Some(value)),
+            Some(QuestionKey::PrincipalType) => {
+                fields.principal_type = fields.principal_type.or(Some(value))
+            }
+            Some(QuestionKey::Action) => fields.action = fields.action.or(Some(value)),
+            Some(QuestionKey::Resource) => fields.resource = fields.resource.or(Some(value)),
+            Some(QuestionKey::ResourceType) => {
+                fields.resource_type = fields.resource_type.or(Some(value))
+            }
+            Some(QuestionKey::Context) => fields.context = fields.context.or(Some(value)),
+            None => return None,
         }
     }
     Some(fields)

@@ -1,14 +1,19 @@
 -- What is told of a tree by what is lent of its parts.
-use Rattle.std.proofs.Common.{◌≡◌, ◌∙◌, ◌≤◌, ◌+◌, ℕ, refl, sym, ap, subst, Bool, true, false, not, Option, Some, None, IfSome, arith}
+use Rattle.std.proofs.Common.{◌≡◌, ◌∙◌, ◌≤◌, ◌<◌, ◌+◌, ◌^◌, ℕ, ℤ, pos, negsuc, nat_lt, refl, sym, ap, subst, Bool, true, false, not, ◌&&◌, cond, Option, Some, None, IfSome, arith}
+use Rattle.std.proofs.lemmas.Grind.{common_steps}
+use Rattle.std.specs.Prelude.{neg_ℤ}
+use Rattle.std.specs.Int.RustNames.{FitsSigned}
+use Rattle.std.specs.Int.{w64}
+use Rattle.std.specs.Option.{SomeIff}
 use Rattle.std.specs.Bool.{Decides, one_answer}
 use Rattle.std.specs.Cmp.Lexicographic.{bytes_decides}
 use Rattle.cedar_language.specs.Uid.{Text, Uid}
-use Rattle.cedar_language.specs.Tree.{Boolean, String, Entity, Literal, Operator, Not, GetAttr, Call, Tree, Lit, Var, Variable, If, And, Or}
-use Rattle.cedar_language.specs.Value.{Value, Plain, Values, no_values, Gives, Fails, FailedExtensionFunctionLookup}
+use Rattle.cedar_language.specs.Tree.{Boolean, Long, String, Entity, Literal, Operator, Not, Neg, GetAttr, Call, Tree, Lit, Var, Variable, If, And, Or}
+use Rattle.cedar_language.specs.Value.{Value, Plain, Values, no_values, Gives, Fails, FailedExtensionFunctionLookup, IntegerOverflow, RecordAttrDoesNotExist}
 use Rattle.cedar_language.specs.Facts.{Facts}
-use Rattle.cedar_language.specs.Order.{same, same_text, same_uid}
+use Rattle.cedar_language.specs.Order.{same, same_text, same_name, same_uid}
 use Rattle.cedar_language.specs.OrderLaws.{value_cmp_total, value_cmp_same}
-use Rattle.cedar_language.specs.Operators.{applied, attribute, attribute_held}
+use Rattle.cedar_language.specs.Operators.{applied, or_fails, is_long, checked, negated, arithmetic, attribute, attribute_held}
 use Rattle.cedar_partial_evaluation.specs.Partial.{Evaluated, AllEvaluated, LeafAnswers, answer_of, last_answer, and_answer, or_answer, if_answer, and_next, partial_in}
 use Rattle.cedar_entities.specs.Data.{EntityData}
 use Rattle.cedar_entities.specs.declared.store.Entities.{Entities}
@@ -50,6 +55,54 @@ texts_tie s t = literals_tie (String s) (String t) (same_text s t) (λ h. ap Str
 
 pub uids_tie : (a b : Uid) → same (Plain (Entity a)) (Plain (Entity b)) ≡ same_uid a b
 uids_tie a b = literals_tie (Entity a) (Entity b) (same_uid a b) (λ h. ap Entity ((uids_same a b).0 h), λ e. (uids_same a b).1 (entity_inj a b e))
+
+-- ---- two uids, by their ids first
+
+pub same_by_id : (u v : Uid) → same_text u.id v.id ≡ true → same_name u.type_name v.type_name ≡ same_uid u v
+same_by_id u v is = by (same_name u.type_name v.type_name) (same_text u.id v.id) is
+  where
+    by : (a b : Bool) → b ≡ true → a ≡ (a && b)
+    by true b e = sym e
+    by false b e = refl
+
+pub differs_by_id : (u v : Uid) → same_text u.id v.id ≡ false → false ≡ same_uid u v
+differs_by_id u v is = by (same_name u.type_name v.type_name) (same_text u.id v.id) is
+  where
+    by : (a b : Bool) → b ≡ false → false ≡ (a && b)
+    by true b e = sym e
+    by false b e = refl
+
+-- ---- checked arithmetic of longs
+
+below : (k : ℕ) → k < 2 ^ 63 → nat_lt k (2 ^ 63) ≡ true
+below k h = grind (arith, common_steps)
+
+fits_is : (z : ℤ) → FitsSigned w64 z → is_long z ≡ true
+fits_is (pos k) h = below k h.sfits
+fits_is (negsuc k) h = below k h.sfits
+
+checked_gives : (r : Option ℤ) (z : ℤ) → SomeIff r (FitsSigned w64 z) z → IfSome r (λ n. checked z ≡ Gives (Plain (Long n)))
+checked_gives None z h = tt
+checked_gives (Some n) z h =
+    ap (λ b. cond b (Gives (Plain (Long z))) (Fails IntegerOverflow)) (fits_is z h.0) ∙ ap (λ m. Gives (Plain (Long m))) (sym h.1)
+
+pub long_of_longs : (f : ℤ → ℤ → ℤ) (u v : Value) (x y : ℤ) (r : Option ℤ) → u ≡ Plain (Long x) → v ≡ Plain (Long y) → SomeIff r (FitsSigned w64 (f x y)) (f x y) → IfSome r (λ n. arithmetic f (two u v) ≡ Gives (Plain (Long n)))
+long_of_longs f u v x y r is also h =
+    subst (λ w. IfSome r (λ n. arithmetic f (two w v) ≡ Gives (Plain (Long n)))) (sym is)
+    (subst (λ w. IfSome r (λ n. arithmetic f (two (Plain (Long x)) w) ≡ Gives (Plain (Long n)))) (sym also) (checked_gives r (f x y) h))
+
+pub negative_long : (v : Value) (x : ℤ) (r : Option ℤ) → v ≡ Plain (Long x) → SomeIff r (FitsSigned w64 (neg_ℤ x)) (neg_ℤ x) → IfSome r (λ n. negated (one v) ≡ Gives (Plain (Long n)))
+negative_long v x r is h = subst (λ w. IfSome r (λ n. negated (one w) ≡ Gives (Plain (Long n)))) (sym is) (checked_gives r (neg_ℤ x) h)
+
+-- ---- a value that is there, or isn't
+
+pub there : (o : Option Value) (v : Value) → or_fails RecordAttrDoesNotExist o ≡ Gives v → Some v ≡ o
+there (Some w) v is = cc
+there None v is = absurd (cc is)
+
+pub missing : (o : Option Value) → or_fails RecordAttrDoesNotExist o ≡ Fails RecordAttrDoesNotExist → None ≡ o
+missing (Some w) is = absurd (cc is)
+missing None is = refl
 
 -- ---- an operator that gives a value whatever functions there are calls none
 
@@ -174,6 +227,9 @@ module _ {F : Type 0} (ev : Evaluator F) where
     pub not_tells : (op : Operator) (t : Tree) (b : Bool) → op ≡ Not → Tells ev d t (Plain (Boolean b)) → Tells ev (d + 1) (unary op t) (Plain (Boolean (not b)))
     not_tells op t b is h = one_tells op t (Plain (Boolean b)) (Plain (Boolean (not b))) h (λ facts has. ap (λ o. applied facts o (one (Plain (Boolean b)))) is)
 
+    pub negative_tells : (op : Operator) (t : Tree) (v : Value) (n : ℤ) → op ≡ Neg → Tells ev d t v → negated (one v) ≡ Gives (Plain (Long n)) → Tells ev (d + 1) (unary op t) (Plain (Long n))
+    negative_tells op t v n is h gives = one_tells op t v (Plain (Long n)) h (λ facts has. ap (λ o. applied facts o (one v)) is ∙ gives)
+
     pub attribute_tells : (a b : Text) (t : Tree) (v : Value) (found : Option Lent) → b ≡ a → Tells ev d t v → ((facts : Facts) → HasFacts ev.entities.now facts → IfSome found (λ l. attribute facts b v ≡ Gives (value_lent l))) →
         IfSome found (λ l. Tells ev (d + 1) (unary (GetAttr a) t) (value_lent l))
     attribute_tells a b t v None is h k = tt
@@ -188,6 +244,11 @@ module _ {F : Type 0} (ev : Evaluator F) where
           ∙ construct_gives ev.entities.now naming facts holds op (two u v) w k has;
       within = omega (arith, h.within, g.within);
     }
+
+    pub long_tells : (op : Operator) (s t : Tree) (u v : Value) (found : Option ℤ) → Tells ev d s u → Tells ev d t v → ((facts : Facts) → IfSome found (λ n. applied facts op (two u v) ≡ Gives (Plain (Long n)))) →
+        IfSome found (λ n. Tells ev (d + 1) (binary op s t) (Plain (Long n)))
+    long_tells op s t u v None h g k = tt
+    long_tells op s t u v (Some n) h g k = two_tells op s t u v (Plain (Long n)) h g (λ facts has. k facts)
 
   -- ---- an attribute of a variable
 

@@ -6,7 +6,7 @@ ghost use Rattle.cedar_policy_parts.specs.Bindings.{Bindings};
 ghost use Rattle.cedar_grammar.specs.Build.{unary, binary};
 ghost use Rattle.cedar_language.specs.Facts.{Facts};
 ghost use Rattle.cedar_language.specs.Tree as tree;
-ghost use Rattle.cedar_language.specs.Tree.{Boolean};
+ghost use Rattle.cedar_language.specs.Tree.{Boolean, Long};
 ghost use Rattle.cedar_language.specs.Value.{Plain};
 ghost use Rattle.cedar_literals.specs.Operators.{unary_operator_of, binary_operator_of};
 ghost use Rattle.cedar_literals.specs.Variables.{variable_of};
@@ -21,8 +21,9 @@ ghost use Rattle.cedar_interpreter.specs.Naming.{naming_in};
 use crate::evaluator::Evaluator;
 use crate::lent::Lent;
 use crate::lent_lookups::{attribute_lent, attribute_of_held};
-use crate::lent_operators::{test_of_one, test_of_two};
+use crate::lent_operators::{long_of_two, negative_lent, test_of_one, test_of_two};
 use crate::operands::UnaryOperator;
+use cedar_literals::literals::Integer;
 use cedar_literals::operators::{BinaryOp, UnaryOp};
 use cedar_literals::variables::Var;
 use cedar_trees::expr::{Expr, ExprKind};
@@ -84,6 +85,8 @@ impl<'s, 'e, 'f, F> Evaluator<'s, 'e, 'f, F> {
                 else_expr,
             } => self.glance_if(test_expr, then_expr, else_expr, below),
             ExprKind::GetAttr { expr, attr } => self.glance_attribute(expr, attr, below),
+            ExprKind::UnaryApp { op, arg } => self.glance_of_one(*op, arg, below),
+            ExprKind::BinaryApp { op, arg1, arg2 } => self.glance_of_two(*op, arg1, arg2, below),
             _ => {
                 let told = self.glance_operator(expr, below)?;
                 Some(Lent::Bool(told))
@@ -177,6 +180,25 @@ impl<'s, 'e, 'f, F> Evaluator<'s, 'e, 'f, F> {
         }
     }
 
+    // What an operator of one operand gives: `-` a long, and `!` a Boolean.
+    #[cycle(glance)]
+    #[tactic(auto, using(crate::proofs::Glanced::negative_tells))]
+    fn glance_of_one<'a>(&'a self, op: UnaryOp, of: &'a Expr, depth: u32) -> Option<Lent<'a>>
+        ensures { IfSome result (λ lent. Tells self.now (depth + 1) (unary (unary_operator_of op) (bare of.now)) (value_lent lent)) }
+    {
+        match op {
+            UnaryOp::Neg => {
+                let lent = self.glance_operand(of, depth)?;
+                let negative = negative_lent(lent)?;
+                Some(Lent::Long(negative))
+            }
+            UnaryOp::Not | UnaryOp::IsEmpty => {
+                let told = self.glance_unary(op, of, depth)?;
+                Some(Lent::Bool(told))
+            }
+        }
+    }
+
     #[cycle(glance)]
     #[tactic(auto, using(crate::proofs::Glanced::tells_within))]
     fn glance_attribute<'a>(&'a self, of: &'a Expr, attr: &'a RcStr, depth: u32) -> Option<Lent<'a>>
@@ -235,6 +257,45 @@ impl<'s, 'e, 'f, F> Evaluator<'s, 'e, 'f, F> {
         let second = self.glance_operand(right, depth)?;
         let told = test_of_two(self.entities, op, first, second)?;
         Some(told)
+    }
+
+    // What an operator of two operands gives: arithmetic a long, and each other a Boolean.
+    #[cycle(glance)]
+    fn glance_of_two<'a>(
+        &'a self,
+        op: BinaryOp,
+        left: &'a Expr,
+        right: &'a Expr,
+        depth: u32,
+    ) -> Option<Lent<'a>>
+        ensures { IfSome result (λ lent. Tells self.now (depth + 1) (binary (binary_operator_of op) (bare left.now) (bare right.now)) (value_lent lent)) }
+    {
+        match op {
+            BinaryOp::Add | BinaryOp::Sub | BinaryOp::Mul => {
+                let told = self.glance_long(op, left, right, depth)?;
+                Some(Lent::Long(told))
+            }
+            _ => {
+                let told = self.glance_two(op, left, right, depth)?;
+                Some(Lent::Bool(told))
+            }
+        }
+    }
+
+    // The long that arithmetic gives; what is no long is left to the full evaluation, which reports the error.
+    #[cycle(glance)]
+    fn glance_long<'a>(
+        &'a self,
+        op: BinaryOp,
+        left: &'a Expr,
+        right: &'a Expr,
+        depth: u32,
+    ) -> Option<Integer>
+        ensures { IfSome result (λ n. Tells self.now (depth + 1) (binary (binary_operator_of op) (bare left.now) (bare right.now)) (Plain (Long n))) }
+    {
+        let first = self.glance_operand(left, depth)?;
+        let second = self.glance_operand(right, depth)?;
+        long_of_two(op, first, second)
     }
 
     // What an expression without parts is.

@@ -19,6 +19,7 @@ use crate::lent::Lent;
 use cedar_entities::entity::Entity;
 use cedar_entities::store::Entities;
 use cedar_literals::uids::EntityUID;
+use cedar_names::comparing::is_same;
 use cedar_values::values::{Value, ValueKind};
 use std::collections::BTreeMap;
 use std::rc::RcStr;
@@ -74,8 +75,36 @@ fn attribute_of_record<'a>(value: &'a Value, key: &str) -> Option<Lent<'a>>
 fn field<'a>(fields: &'a BTreeMap<RcStr, Value>, key: &str) -> Option<Lent<'a>>
     ensures { IfSome result (λ seen. or_fails RecordAttrDoesNotExist (found (keys_of fields.now.entries) (values_of fields.now.entries) key.now) ≡ Gives (value_lent seen)) }
 {
-    let value = fields.get(key)?;
+    let value = value_at(fields, key)?;
     Some(Lent::of_value(value))
+}
+
+/// The most keys of a record that are compared one after another.
+const FEW: usize = 8;
+
+// The value under a key. Where keys are few, telling whether two are the same costs less than their order.
+fn value_at<'a>(fields: &'a BTreeMap<RcStr, Value>, key: &str) -> Option<&'a Value>
+    ensures { option_copied result ≡ found (keys_of fields.now.entries) (values_of fields.now.entries) key.now }
+{
+    if fields.len() > FEW {
+        return value_in_order(fields, key);
+    }
+    for (name, value) in fields {
+        if is_same(name.as_str(), key) {
+            return Some(value);
+        }
+    }
+    None
+}
+
+// The same by the order of the keys.
+fn value_in_order<'a>(fields: &'a BTreeMap<RcStr, Value>, key: &str) -> Option<&'a Value>
+    ensures { option_copied result ≡ found (keys_of fields.now.entries) (values_of fields.now.entries) key.now }
+{
+    match fields.get(key) {
+        Some(value) => Some(value),
+        None => None,
+    }
 }
 
 /// Whether a record, or an entity, has an attribute.
@@ -110,7 +139,7 @@ fn record_has(value: &Value, key: &str) -> Option<bool>
 fn has_field(fields: &BTreeMap<RcStr, Value>, key: &str) -> bool
     ensures { is_there (or_fails RecordAttrDoesNotExist (found (keys_of fields.now.entries) (values_of fields.now.entries) key.now)) ≡ truth result }
 {
-    match fields.get(key) {
+    match value_at(fields, key) {
         Some(_) => true,
         None => false,
     }

@@ -1,10 +1,12 @@
 // What operators give for values that are lent, where that is told without memory and is no error.
-ghost use Rattle.std.specs.Prelude.{◌≡◌, IfSome};
+ghost use Rattle.std.specs.Prelude.{◌≡◌, ◌+ℤ◌, ◌-ℤ◌, ◌*ℤ◌, IfSome};
 ghost use Rattle.std.specs.Str.{chars};
 ghost use Rattle.cedar_language.specs.Facts.{Facts};
-ghost use Rattle.cedar_language.specs.Operators.{applied, truth, like_of, is_of, less_of, less_eq_of, contains_of, has_member};
+ghost use Rattle.cedar_language.specs.Operators.{applied, truth, negated, arithmetic, like_of, is_of, less_of, less_eq_of, contains_of, has_member};
 ghost use Rattle.cedar_language.specs.Order.{same, all_of};
 ghost use Rattle.cedar_language.specs.Pattern.{matches};
+ghost use Rattle.cedar_language.specs.Tree.{Long};
+ghost use Rattle.cedar_language.specs.Value.{Plain, Gives};
 ghost use Rattle.cedar_literals.specs.Operators.{binary_operator_of};
 ghost use Rattle.cedar_value_operators.specs.Operands.{one, two};
 ghost use Rattle.cedar_operators.specs.Store.{HasFacts};
@@ -15,7 +17,7 @@ use crate::lent::Lent;
 use crate::lent_lookups::{has_lent, is_within};
 use crate::operands::UnaryOperator;
 use cedar_entities::store::Entities;
-use cedar_literals::literals::Literal;
+use cedar_literals::literals::{Integer, Literal};
 use cedar_literals::operators::BinaryOp;
 use cedar_literals::patterns::Pattern;
 use cedar_literals::uids::EntityType;
@@ -50,6 +52,49 @@ fn is_lent(of: Lent<'_>, entity_type: &EntityType) -> Option<bool>
     ensures { IfSome result (λ b. is_of entity_type.now (one (value_lent of.entry)) ≡ truth b) }
 {
     Some(of.entity()?.entity_type() == entity_type)
+}
+
+/// The negative of a long, where that is a long.
+#[tactic(auto, using(crate::proofs::Glanced::negative_long))]
+pub(crate) fn negative_lent(of: Lent<'_>) -> Option<Integer>
+    ensures { IfSome result (λ n. negated (one (value_lent of.entry)) ≡ Gives (Plain (Long n))) }
+{
+    of.long()?.checked_neg()
+}
+
+/// What `+`, `-` or `*` gives for two longs, where that is a long.
+pub(crate) fn long_of_two(op: BinaryOp, left: Lent<'_>, right: Lent<'_>) -> Option<Integer>
+    ensures { (facts : Facts) → IfSome result (λ n. applied facts (binary_operator_of op) (two (value_lent left.entry) (value_lent right.entry)) ≡ Gives (Plain (Long n))) }
+{
+    match op {
+        BinaryOp::Add => sum_lent(left, right),
+        BinaryOp::Sub => difference_lent(left, right),
+        BinaryOp::Mul => product_lent(left, right),
+        BinaryOp::Eq | BinaryOp::Less | BinaryOp::LessEq | BinaryOp::In => None,
+        BinaryOp::Contains | BinaryOp::ContainsAll | BinaryOp::ContainsAny => None,
+        BinaryOp::GetTag | BinaryOp::HasTag => None,
+    }
+}
+
+#[tactic(auto, using(crate::proofs::Glanced::long_of_longs))]
+fn sum_lent(left: Lent<'_>, right: Lent<'_>) -> Option<Integer>
+    ensures { IfSome result (λ n. arithmetic (λ x y. x +ℤ y) (two (value_lent left.entry) (value_lent right.entry)) ≡ Gives (Plain (Long n))) }
+{
+    left.long()?.checked_add(right.long()?)
+}
+
+#[tactic(auto, using(crate::proofs::Glanced::long_of_longs))]
+fn difference_lent(left: Lent<'_>, right: Lent<'_>) -> Option<Integer>
+    ensures { IfSome result (λ n. arithmetic (λ x y. x -ℤ y) (two (value_lent left.entry) (value_lent right.entry)) ≡ Gives (Plain (Long n))) }
+{
+    left.long()?.checked_sub(right.long()?)
+}
+
+#[tactic(auto, using(crate::proofs::Glanced::long_of_longs))]
+fn product_lent(left: Lent<'_>, right: Lent<'_>) -> Option<Integer>
+    ensures { IfSome result (λ n. arithmetic (λ x y. x *ℤ y) (two (value_lent left.entry) (value_lent right.entry)) ≡ Gives (Plain (Long n))) }
+{
+    left.long()?.checked_mul(right.long()?)
 }
 
 /// What an operator of two operands gives, where that is a Boolean.

@@ -1,5 +1,5 @@
 // Texts that are read by the strict grammar, with no function of an extension but `unknown` in bodies.
-use cedar_data::read_data;
+use cedar_data::{TypeNames, read_data};
 use cedar_extensions::extensions::Extensions;
 use cedar_faults::ExtStyles;
 use cedar_literals::literals::Literal;
@@ -32,7 +32,10 @@ pub(crate) fn read(alloc: Global, verb: &str, text: &str) -> Answer {
 fn of_bodies(alloc: Global, verb: &str, text: &str, styles: &ExtStyles) -> Answer {
     match verb {
         "body" => body(alloc, parse_restrictedexpr(alloc, text, styles, DEPTH)),
-        "data" => data(alloc, read_data(alloc, text, styles, DEPTH)),
+        "data" => data(
+            alloc,
+            read_data(alloc, text, styles, &mut TypeNames::new(alloc), DEPTH),
+        ),
         "literal" => literal(alloc, parse_literal_strict(alloc, text, styles, DEPTH)),
         _ => no_case(alloc),
     }

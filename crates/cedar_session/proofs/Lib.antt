@@ -1,3 +1,4 @@
+pub mod Ahead
 mod Bodies
 mod Callers
 mod Readings

@@ -8,6 +8,7 @@ pub mod Open
 pub mod Programs
 pub mod Reading
 pub mod Running
+pub mod Ahead
 pub mod Sessions
 pub mod Lending
 pub mod Owning

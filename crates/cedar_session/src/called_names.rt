@@ -1,19 +1,24 @@
-// The names that texts may call, kept from one text to the next.
-ghost use Rattle.std.specs.Prelude.{◌≡◌, None, Some, IsSome, OnOk};
+// Names that are kept from one text to the next: those that texts may call, and those of types.
+ghost use Rattle.std.specs.Prelude.{◌≡◌, None, Some, IsSome, IfOk, IfSome, OnOk};
+ghost use Rattle.cedar_data.specs.Data.{IsDataText};
+ghost use Rattle.cedar_grammar.specs.Functions.{Functions, body_names};
 ghost use Rattle.cedar_parser.specs.Settings.{functions_of};
 ghost use Rattle.cedar_session.specs.Calling.{AreNamesOf};
 
+use cedar_data::{TypeNames, read_data};
 use cedar_extensions::extensions::Extensions;
 use cedar_extensions::objects::ExtensionFunctionObject;
 use cedar_faults::ExtStyles;
 use cedar_parser::prelude::StylesOfExtensions;
+use cedar_restricted::restricted::RestrictedExpr;
 use std::alloc::{AllocError, Global};
 
 /// The names that texts may call by the table of a session: those of bodies are made where the first body is read,
-/// and those of policies where the first policies are.
+/// and those of policies where the first policies are. Beside them stand names of types that bodies spelled.
 pub(crate) struct CalledNames {
     bodies: Option<ExtStyles>,
     policies: Option<ExtStyles>,
+    types: Option<TypeNames>,
 }
 
 impl Drop for CalledNames {
@@ -21,6 +26,7 @@ impl Drop for CalledNames {
         let CalledNames {
             bodies: _,
             policies: _,
+            types: _,
         } = self;
     }
 }
@@ -34,6 +40,7 @@ impl CalledNames {
         CalledNames {
             bodies: None,
             policies: None,
+            types: None,
         }
     }
 
@@ -75,6 +82,26 @@ impl CalledNames {
         ensures { self.now.bodies ≡ Some result.now }
     {
         self.bodies.as_ref().unwrap()
+    }
+
+    /// The data that a text is, where it may call the names for bodies, which are made; `None` says nothing of
+    /// the text (`read_data`). The names of its types are shared with those of bodies before. Refused for
+    /// memory alone.
+    pub(crate) fn read_plain(
+        &mut self,
+        alloc: Global,
+        text: &str,
+        depth: u32,
+    ) -> Result<Option<RestrictedExpr>, AllocError>
+        requires { IsSome self.old.bodies }
+        ensures called { (functions : Functions) → AreNamesOf functions self.old → AreNamesOf functions self.new }
+        ensures made { IsSome self.new.bodies }
+        ensures data { (functions : Functions) → AreNamesOf functions self.old →
+            IfOk result (λ found. IfSome found (IsDataText (body_names functions) depth text.now)) }
+    {
+        let types = self.types.get_or_insert(TypeNames::new(alloc));
+        let styles = self.bodies.as_ref().unwrap();
+        read_data(alloc, text, styles, types, depth)
     }
 
     /// The names that policies may call, which are made.

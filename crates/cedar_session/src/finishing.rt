@@ -14,7 +14,7 @@ use cedar_replies::{Refusal, Reply, put_line};
 use std::io::Write;
 
 /// Sees that all that was written is out.
-fn send<W: Write>(writer: &mut Watched<W>) -> Result<(), RunError>
+pub(crate) fn send<W: Write>(writer: &mut Watched<W>) -> Result<(), RunError>
     ensures bytes { Keeps (W.contents (watched_inner writer.old)) (W.contents (watched_inner writer.new)) }
     ensures ok { OnOk result ((watched_failed writer.old ≡ false) × (watched_failed writer.new ≡ false)) }
     ensures err { OnErr result (IsErrOf result RunError.Write × (watched_failed writer.new ≡ true)) }

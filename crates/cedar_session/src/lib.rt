@@ -8,6 +8,7 @@
 #![tactic(auto)]
 
 mod asked;
+mod buffered;
 mod called_names;
 mod command;
 mod entry;
@@ -23,6 +24,7 @@ mod refusals;
 mod running;
 mod session;
 
+pub use buffered::run_buffered;
 pub use cedar_entities::store::Entities;
 pub use cedar_evaluator::partial_response::PartialResponse;
 pub use cedar_extensions::evaluation_error::EvaluationError;

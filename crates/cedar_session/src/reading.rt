@@ -10,7 +10,6 @@ ghost use Rattle.cedar_session.specs.Settings.{setting_with};
 
 use crate::called_names::CalledNames;
 use crate::refusals::of_body;
-use cedar_data::read_data;
 use cedar_extensions::extensions::Extensions;
 use cedar_extensions::objects::ExtensionFunctionObject;
 use cedar_grammar::texts_call_the_table;
@@ -23,7 +22,7 @@ use std::alloc::Global;
 /// The body that a text is, where it may call the functions of the table. No `unknown` is called in it
 /// where the table lacks that function. Most bodies are read straight from their text (`read_data`); the
 /// parser reads the others, and finds why a text is refused. The names of the table's functions are made where they
-/// aren't yet, and kept.
+/// aren't yet, and kept; so are names of types that the text spells, for bodies to come to share.
 ///
 /// It is refused `Text` where the text is no expression within any nesting, and so where a slot of templates
 /// stands in it; `Depth` where its nesting or the height of its tree is more than `depth`; `NotRestricted`
@@ -46,12 +45,11 @@ pub fn read_body<F: ExtensionFunctionObject>(
     texts_call_the_table();
 
     names.make_for_bodies(alloc, extensions)?;
-    let styles = names.for_bodies();
-    let found = read_data(alloc, text, styles, depth)?;
+    let found = names.read_plain(alloc, text, depth)?;
     if let Some(body) = found {
         return Ok(body);
     }
-    match parse_restrictedexpr(alloc, text, styles, depth) {
+    match parse_restrictedexpr(alloc, text, names.for_bodies(), depth) {
         Ok(body) => Ok(body),
         Err(error) => Err(of_body(&error)),
     }

@@ -5,7 +5,7 @@ ghost use Rattle.cedar_frames.specs.Watching.{watched_failed, watched_late, watc
 ghost use Rattle.cedar_frames.specs.Frames.{IsPartial};
 ghost use Rattle.cedar_frames.specs.Heads.{body_limit};
 ghost use Rattle.cedar_frames.specs.Reading.{Reads, ReadsNext, IsReadOut};
-ghost use Rattle.cedar_world.specs.RunText.{FrameStep, RunText, TextBeforeFailure};
+ghost use Rattle.cedar_world.specs.RunText.{BodyStep, FrameStep, RunText, TextBeforeFailure};
 ghost use Rattle.cedar_replies.specs.Replies.{reply_of};
 ghost use Rattle.cedar_session.specs.Sessions.{world_of, setting_of};
 ghost use Rattle.cedar_session.specs.Running.{end_of, EndsInput, Adds, CutsShort};
@@ -40,8 +40,25 @@ pub enum RunError {
     Write,
 }
 
-/// Answers the command of a frame. An empty body takes no memory to keep, and one that isn't UTF-8 none to refuse.
-fn answer<F: ExtensionFunctionObject>(
+/// Answers the command of a frame whose body this is. One that isn't UTF-8 takes no memory to refuse.
+pub(crate) fn answer_bytes<F: ExtensionFunctionObject>(
+    session: &mut Session<'_, '_, F>,
+    verb: Verb,
+    bytes: &[u8],
+) -> Result<Reply, Refusal>
+    requires fits { length bytes.now ≤ body_limit }
+    ensures step { BodyStep (setting_of session.old) (world_of session.old) verb bytes.now (reply_of result) (world_of session.new) }
+    ensures utf8 { (IsUtf8 bytes.now → ⊥) → result ≡ Err Refusal.NotUtf8 }
+    ensures setting { setting_of session.new ≡ setting_of session.old }
+{
+    match str::from_utf8(bytes) {
+        Ok(text) => session.apply(&Command::of(verb, text)),
+        Err(_) => Err(Refusal::NotUtf8),
+    }
+}
+
+/// Answers the command of a frame. An empty body takes no memory to keep.
+pub(crate) fn answer<F: ExtensionFunctionObject>(
     session: &mut Session<'_, '_, F>,
     verb: Verb,
     body: &Option<Vec<u8>>,
@@ -55,14 +72,11 @@ fn answer<F: ExtensionFunctionObject>(
     let Some(bytes) = body else {
         return Err(Refusal::Memory);
     };
-    match str::from_utf8(bytes.as_slice()) {
-        Ok(text) => session.apply(&Command::of(verb, text)),
-        Err(_) => Err(Refusal::NotUtf8),
-    }
+    answer_bytes(session, verb, bytes.as_slice())
 }
 
 /// Reads what stands next. It is asked for only once each line behind the first frame is out.
-fn next_behind<R: Read, W: Write>(
+pub(crate) fn next_behind<R: Read, W: Write>(
     count: u64,
     writer: &Watched<W>,
     alloc: Global,
@@ -82,7 +96,7 @@ fn next_behind<R: Read, W: Write>(
 }
 
 /// Reads a byte behind as many frames as can be counted. It is asked for only once each line is out.
-fn byte_behind<R: Read, W: Write>(
+pub(crate) fn byte_behind<R: Read, W: Write>(
     writer: &Watched<W>,
     reader: &mut Watched<R>,
 ) -> Result<Option<u8>, ReadFailed>

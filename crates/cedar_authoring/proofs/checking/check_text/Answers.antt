@@ -2,6 +2,7 @@
 use Rattle.std.proofs.Common.{◌≡◌, Some, string_bytes, inl, ap, subst, ◌∙◌}
 use Rattle.std.proofs.lemmas.Result.{IfOk-weaker}
 use Rattle.std.specs.Str.Lossy.{utf8_valid_len}
+use Rattle.cedar_session.specs.Settings.{setting_with}
 use Rattle.cedar_authoring.specs.Checks.{TellsRefused}
 use Rattle.cedar_authoring.specs.Places.{position_at}
 use Rattle.cedar_authoring.specs.Telling.{TellsOf}
@@ -10,13 +11,14 @@ use Rattle.cedar_authoring.specs.declared.places.Position.{Position}
 use Rattle.cedar_authoring.proofs.checking.check_text.Goals as goal
 
 pub returns-in-Err-clause-refused : goal.returns-in-Err-clause-refused
-returns-in-Err-clause-refused c =
+returns-in-Err-clause-refused g c =
+    let by = setting_with g.F.ExtensionFunctionObject.answers c.args.extensions.now 256 in
     let name = c.args.name.now in
     let bytes = c.args.bytes.now in
     let at : c.position_in-place.result ≡ position_at bytes (utf8_valid_len bytes) =
     c.position_in-place.ensures ∙ ap (λ n. position_at bytes n) (c.valid_up_to.ensures ∙ c.in-Err.ensures.valid_len) in
     let P : Report → Type 0 = λ report. TellsOf name (Some c.position_in-place.result) (string_bytes report.text) in
-    let Q : Report → Type 0 = λ report. report.status ≡ 1 → TellsRefused name bytes (string_bytes report.text) in
+    let Q : Report → Type 0 = λ report. report.status ≡ 1 → TellsRefused by name bytes (string_bytes report.text) in
     let at_place : (report : Report) → P report → Q report =
     λ report told refused. inl (c.in-Err.ensures.cases.0, (let R : Position → Type 0 = λ place. TellsOf name (Some place) (string_bytes report.text) in subst R at told)) in
     IfOk-weaker c.refuse.result P Q at_place c.refuse.ensures.told

@@ -3,7 +3,7 @@ use Rattle.std.proofs.Common.{◌++◌, ◌∙◌, ap}
 use Rattle.cedar_authoring.proofs.explaining.explain.Goals as goal
 
 pub returns-clause-told : goal.returns-clause-told
-returns-clause-told c =
+returns-clause-told g c =
     let policies = c.in_ok-tell_policies.ensures in
     let names = c.in_ok-tell_names.ensures in
     record {

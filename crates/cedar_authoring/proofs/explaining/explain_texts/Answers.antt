@@ -4,7 +4,7 @@ use Rattle.std.proofs.lemmas.Result.{IfOk-weaker}
 use Rattle.cedar_language.specs.Uid.{Text}
 use Rattle.cedar_replies.specs.Refusals.{refusal_of}
 use Rattle.cedar_replies.specs.Replies.{answer_of}
-use Rattle.cedar_session.specs.Programs.{setting_within}
+use Rattle.cedar_session.specs.Settings.{setting_with}
 use Rattle.cedar_session.specs.Sessions.{setting_of, world_of}
 use Rattle.cedar_world.specs.Commands.{Load, Put, Ask, Named, Done, Answered, Refused}
 use Rattle.cedar_world.specs.Setting.{Setting}
@@ -18,22 +18,22 @@ use Rattle.cedar_authoring.proofs.Refusals.{body_told, never_one, unless_memory,
 use Rattle.cedar_authoring.proofs.explaining.explain_texts.Goals as goal
 
 pub returns-in-Err-clause-refused : goal.returns-in-Err-clause-refused
-returns-in-Err-clause-refused c =
-    let by = setting_within 256 c.in_ok-extensions.extensions in
+returns-in-Err-clause-refused g c =
+    let by = setting_with g.F.ExtensionFunctionObject.answers c.args.extensions.now 256 in
     let start = c.in-Ok.session in
     let new = world_of c.load.new.self in
     let r = c.in-Err.refusal in
     let name = c.args.policies.name.now in
     let text = c.args.policies.text.now in
     let step = stepped (setting_of start) by (world_of start) new_world new Load text (Refused (refusal_of r)) c.in-Ok.ensures.setting c.in-Ok.ensures.world c.in-Err.ensures.step in
-    let Q : Report → Type 0 = λ report. TellsFaults name text (string_bytes report.text) in
-    let R : Report → Type 0 = λ report. TellsUnexplained (titled_text c.args.policies) (titled_text c.args.entities) (titled_text c.args.question) (string_bytes report.text) in
+    let Q : Report → Type 0 = λ report. TellsFaults by name text (string_bytes report.text) in
+    let R : Report → Type 0 = λ report. TellsUnexplained by (titled_text c.args.policies) (titled_text c.args.entities) (titled_text c.args.question) (string_bytes report.text) in
     unless_memory c.refuse_load.result r r (λ (report : Report). report.status ≡ 1) Q R refl c.refuse_load.ensures.other c.refuse_load.ensures.told
-    (λ report other told. inr (by, (c.in_ok-extensions.extensions, c.in_ok-extensions.ensures.alone, refl), policies_refused (new, refusal_of r, other, step, told)))
+    (λ report other told. inr (policies_refused (new, refusal_of r, other, step, told)))
 
 pub returns-in-Err-put-clause-refused : goal.returns-in-Err-put-clause-refused
-returns-in-Err-put-clause-refused c =
-    let by = setting_within 256 c.in_ok-extensions.extensions in
+returns-in-Err-put-clause-refused g c =
+    let by = setting_with g.F.ExtensionFunctionObject.answers c.args.extensions.now 256 in
     let start = c.in-Ok.session in
     let loaded = world_of c.load.new.self in
     let new = world_of c.put.new.self in
@@ -43,18 +43,16 @@ returns-in-Err-put-clause-refused c =
     let loads = stepped (setting_of start) by (world_of start) new_world loaded Load c.args.policies.text.now (Named ids) c.in-Ok.ensures.setting c.in-Ok.ensures.world c.in-Ok-load.ensures.step in
     let step = stepped (setting_of c.load.new.self) by loaded loaded new Put c.args.entities.text.now (Refused (refusal_of r)) (c.in-Ok-load.ensures.setting ∙ c.in-Ok.ensures.setting) refl c.in-Err-put.ensures.step in
     let Q : Report → Type 0 = λ report. TellsBody by command.source.name.now command.source.text.now (refusal_of command.refusal) (string_bytes report.text) in
-    let R : Report → Type 0 = λ report. TellsUnexplained (titled_text c.args.policies) (titled_text c.args.entities) (titled_text c.args.question) (string_bytes report.text) in
+    let R : Report → Type 0 = λ report. TellsUnexplained by (titled_text c.args.policies) (titled_text c.args.entities) (titled_text c.args.question) (string_bytes report.text) in
     unless_memory c.tell_refusal.result r command.refusal (λ (report : Report). report.status ≡ 1) Q R c.of-command.ensures.refusal c.tell_refusal.ensures.other c.tell_refusal.ensures.told
     (λ report other told. inr (
-      by,
-      (c.in_ok-extensions.extensions, c.in_ok-extensions.ensures.alone, refl),
-      entities_refused ids loaded loads
-          (new, refusal_of r, other, step, body_told by command.source c.args.entities command.refusal r (string_bytes report.text) c.of-command.ensures.source c.of-command.ensures.refusal told),
+    entities_refused ids loaded loads
+    (new, refusal_of r, other, step, body_told by command.source c.args.entities command.refusal r (string_bytes report.text) c.of-command.ensures.source c.of-command.ensures.refusal told)
     ))
 
 pub returns-in-Ok-ask-clause-explained : goal.returns-in-Ok-ask-clause-explained
-returns-in-Ok-ask-clause-explained c =
-    let by = setting_within 256 c.in_ok-extensions.extensions in
+returns-in-Ok-ask-clause-explained g c =
+    let by = setting_with g.F.ExtensionFunctionObject.answers c.args.extensions.now 256 in
     let start = c.in-Ok.session in
     let loaded = world_of c.load.new.self in
     let held = world_of c.put.new.self in
@@ -67,11 +65,9 @@ returns-in-Ok-ask-clause-explained c =
     let after_ask : setting_of c.ask.new.self ≡ by = c.in-Ok-ask.ensures.setting ∙ after_put in
     let P : Report → Type 0 = λ report. TellsAnswered name (setting_of c.ask.new.self) asked c.as_slice.result.now answer (string_bytes report.text) in
     let Q : Report → Type 0 = λ report. report.status ≡ status_of answer.decision in
-    let R : Report → Type 0 = λ report. (report.status ≡ 1 → ⊥) → TellsExplained name c.args.policies.text.now c.args.entities.text.now c.args.question.text.now report.status (string_bytes report.text) in
+    let R : Report → Type 0 = λ report. (report.status ≡ 1 → ⊥) → TellsExplained by name c.args.policies.text.now c.args.entities.text.now c.args.question.text.now report.status (string_bytes report.text) in
     both_ok c.explain.result P Q R
     (λ report tells decides other. record {
-      by = by;
-      program = (c.in_ok-extensions.extensions, c.in_ok-extensions.ensures.alone, refl);
       ids = ids;
       loaded = loaded;
       loads = stepped (setting_of start) by (world_of start) new_world loaded Load c.args.policies.text.now (Named ids) c.in-Ok.ensures.setting c.in-Ok.ensures.world c.in-Ok-load.ensures.step;
@@ -87,15 +83,16 @@ returns-in-Ok-ask-clause-explained c =
     c.explain.ensures.told c.explain.ensures.status
 
 pub returns-in-Ok-ask-clause-refused : goal.returns-in-Ok-ask-clause-refused
-returns-in-Ok-ask-clause-refused c =
+returns-in-Ok-ask-clause-refused g c =
     let decided = (answer_of c.in-Ok-ask.answer).decision in
+    let by = setting_with g.F.ExtensionFunctionObject.answers c.args.extensions.now 256 in
     let P : Report → Type 0 = λ report. report.status ≡ status_of decided in
-    let Q : Report → Type 0 = λ report. report.status ≡ 1 → TellsUnexplained (titled_text c.args.policies) (titled_text c.args.entities) (titled_text c.args.question) (string_bytes report.text) in
+    let Q : Report → Type 0 = λ report. report.status ≡ 1 → TellsUnexplained by (titled_text c.args.policies) (titled_text c.args.entities) (titled_text c.args.question) (string_bytes report.text) in
     IfOk-weaker c.explain.result P Q (λ report decides is. absurd (never_one decided (sym decides ∙ is))) c.explain.ensures.status
 
 pub returns-clause-refused : goal.returns-clause-refused
-returns-clause-refused c =
-    let by = setting_within 256 c.in_ok-extensions.extensions in
+returns-clause-refused g c =
+    let by = setting_with g.F.ExtensionFunctionObject.answers c.args.extensions.now 256 in
     let start = c.in-Ok.session in
     let loaded = world_of c.load.new.self in
     let held = world_of c.put.new.self in
@@ -109,11 +106,9 @@ returns-clause-refused c =
     let step = stepped (setting_of c.put.new.self) by held held new Ask c.args.question.text.now (Refused (refusal_of r)) after_put refl c.in-Err-ask.ensures.step in
     let command = c.of-command-in-Err-ask.result in
     let Q : Report → Type 0 = λ report. TellsBody by command.source.name.now command.source.text.now (refusal_of command.refusal) (string_bytes report.text) in
-    let R : Report → Type 0 = λ report. TellsUnexplained (titled_text c.args.policies) (titled_text c.args.entities) (titled_text c.args.question) (string_bytes report.text) in
+    let R : Report → Type 0 = λ report. TellsUnexplained by (titled_text c.args.policies) (titled_text c.args.entities) (titled_text c.args.question) (string_bytes report.text) in
     unless_memory c.tell_refusal-in-Err-ask.result r command.refusal (λ (report : Report). report.status ≡ 1) Q R c.of-command-in-Err-ask.ensures.refusal c.tell_refusal-in-Err-ask.ensures.other c.tell_refusal-in-Err-ask.ensures.told
     (λ report other told. inr (
-      by,
-      (c.in_ok-extensions.extensions, c.in_ok-extensions.ensures.alone, refl),
-      question_refused ids loaded held loads puts
-          (new, refusal_of r, other, step, body_told by command.source c.args.question command.refusal r (string_bytes report.text) c.of-command-in-Err-ask.ensures.source c.of-command-in-Err-ask.ensures.refusal told),
+    question_refused ids loaded held loads puts
+    (new, refusal_of r, other, step, body_told by command.source c.args.question command.refusal r (string_bytes report.text) c.of-command-in-Err-ask.ensures.source c.of-command-in-Err-ask.ensures.refusal told)
     ))

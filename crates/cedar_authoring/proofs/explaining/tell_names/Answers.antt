@@ -15,7 +15,7 @@ abbrev texts : List (Bor (List ℕ)) → List Text
 texts names = map (λ (x : Bor (List ℕ)). x.now) names
 
 pub returns : goal.returns
-returns c =
+returns g c =
     let asked = (world_of c.args.session.now).asked in
     let left = names_left c.args.response.now in
     let names = texts c.in_ok-names.names.items in

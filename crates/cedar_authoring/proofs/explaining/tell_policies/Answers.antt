@@ -6,7 +6,7 @@ use Rattle.cedar_authoring.proofs.Told.{Adds-more}
 use Rattle.cedar_authoring.proofs.explaining.tell_policies.Goals as goal
 
 pub loop-id-preserved : goal.loop-id-preserved
-loop-id-preserved c =
+loop-id-preserved g c =
     let name = c.args.source.name.now in
     let response = c.args.response.now in
     let policies = c.args.session.now.policies in

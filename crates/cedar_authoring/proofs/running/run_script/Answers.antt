@@ -4,7 +4,7 @@ use Rattle.std.specs.Fmt.{decimal}
 use Rattle.cedar_authoring.proofs.running.run_script.Goals as goal
 
 pub returns-in-Some-clause-told : goal.returns-in-Some-clause-told
-returns-in-Some-clause-told c = λ two.
+returns-in-Some-clause-told g c = λ two.
     let step = c.in-Some.step.now in
     let name = c.args.name.now in
     let words = codes ": the text is longer than 1,048,576 bytes\n" in

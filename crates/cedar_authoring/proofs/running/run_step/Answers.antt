@@ -6,12 +6,12 @@ use Rattle.cedar_authoring.proofs.Below.{nothing_added, nothing_below}
 use Rattle.cedar_authoring.proofs.running.run_step.Goals as goal
 
 pub returns-then-fine-clause-answered : goal.returns-then-fine-clause-answered
-returns-then-fine-clause-answered c =
+returns-then-fine-clause-answered g c =
     (reply_of c.apply-outcome.result, rw (c.of.ensures.verb, c.of.ensures.text, c.as_str.ensures.value) at c.apply-outcome.ensures.step, c.in_ok-fine.ensures.fine, c.in_ok-fine.ensures.fed)
 
 pub returns-then-fine-clause-told : goal.returns-then-fine-clause-told
-returns-then-fine-clause-told c = nothing_added AreBelow (string_bytes c.args.wrong.now) nothing_below
+returns-then-fine-clause-told g c = nothing_added AreBelow (string_bytes c.args.wrong.now) nothing_below
 
 pub returns-clause-answered : goal.returns-clause-answered
-returns-clause-answered c =
+returns-clause-answered g c =
     (reply_of c.apply-outcome.result, rw (c.of.ensures.verb, c.of.ensures.text, c.as_str.ensures.value) at c.apply-outcome.ensures.step, c.in_ok-fine.ensures.fine, c.in_ok-fine.ensures.fed)

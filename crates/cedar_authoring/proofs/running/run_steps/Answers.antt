@@ -11,14 +11,14 @@ use Rattle.cedar_authoring.proofs.Ran.{nothing_answered, AreAnswered-more}
 use Rattle.cedar_authoring.proofs.running.run_steps.Goals as goal
 
 pub loop-step-init : goal.loop-step-init
-loop-step-init c = record {
+loop-step-init g c = record {
   answered = nothing_answered (setting_of c.args.session.now) (world_of c.args.session.now);
   setting = refl;
   told = nothing_added AreBelow (string_bytes c.args.wrong.now) nothing_below;
 }
 
 pub loop-step-preserved : goal.loop-step-preserved
-loop-step-preserved c =
+loop-step-preserved g c =
     let by = setting_of c.args.session.now in
     let old = world_of c.args.session.now in
     let mid = world_of c.loop-step.session in
@@ -34,7 +34,7 @@ loop-step-preserved c =
     }
 
 pub returns-clause-answered : goal.returns-clause-answered
-returns-clause-answered c =
+returns-clause-answered g c =
     let past : length c.args.steps.now ≤ c.loop-step.step-index = omega arith in
     let P : List Step → Type 0 = λ ss. AreAnswered (setting_of c.args.session.now) (world_of c.args.session.now) ss (world_of c.loop-step.session) c.loop-step.fine in
     subst P (take_all c.loop-step.step-index c.args.steps.now past) c.loop-step.invariant.answered

@@ -2,7 +2,7 @@
 use Rattle.std.proofs.Common.{◌≡◌, ◌++◌, Bool, List, string_bytes, sym, subst, ◌∙◌}
 use Rattle.cedar_world.specs.Setting.{Setting}
 use Rattle.cedar_world.specs.World.{World, new_world}
-use Rattle.cedar_session.specs.Programs.{setting_within}
+use Rattle.cedar_session.specs.Settings.{setting_with}
 use Rattle.cedar_session.specs.Sessions.{setting_of, world_of}
 use Rattle.cedar_authoring.specs.declared.scripts.script.Step.{Step}
 use Rattle.cedar_authoring.specs.Scripts.{AreAnswered}
@@ -12,8 +12,8 @@ use Rattle.cedar_authoring.proofs.Ran.{AreAnswered-append}
 use Rattle.cedar_authoring.proofs.running.run_test.Goals as goal
 
 pub returns-clause-passes : goal.returns-clause-passes
-returns-clause-passes c =
-    let by : Setting = setting_within 256 c.args.extensions.now in
+returns-clause-passes g c =
+    let by : Setting = setting_with g.F.ExtensionFunctionObject.answers c.args.extensions.now 256 in
     let set_up : List Step = c.args.set_up.now in
     let steps : List Step = c.args.test.now.steps.items in
     let start : World = world_of c.in-Ok.session in
@@ -29,7 +29,7 @@ returns-clause-passes c =
     (new, subst R (sym c.both-passed.ensures) (AreAnswered-append by new_world mid new set_up steps c.in_ok-before.before c.in_ok-after.after first later))
 
 pub returns-clause-told : goal.returns-clause-told
-returns-clause-told c =
+returns-clause-told g c =
     let start = string_bytes c.new-wrong.result in
     let mid = string_bytes c.run_steps.new.wrong in
     let new = string_bytes c.run_steps-2.new.wrong in

@@ -5,7 +5,7 @@ use Rattle.std.specs.Fmt.{decimal}
 use Rattle.std.specs.Int.{from_bool}
 use Rattle.cedar_language.specs.Uid.{Text}
 use Rattle.cedar_world.specs.Setting.{Setting}
-use Rattle.cedar_session.specs.Programs.{setting_within}
+use Rattle.cedar_session.specs.Settings.{setting_with}
 use Rattle.cedar_authoring.specs.declared.scripts.script.Step.{Step}
 use Rattle.cedar_authoring.specs.declared.scripts.script.Test.{Test}
 use Rattle.cedar_authoring.specs.Scripts.{Passes, passed_of, failed_of}
@@ -14,8 +14,8 @@ use Rattle.cedar_authoring.proofs.running.run_tests.Goals as goal
 use Rattle.cedar_authoring.proofs.running.run_tests.Goals.{then-passed-gt0+then-failed-eq0, else-passed-gt0, else-passed-gt0-via-then-passed-gt0+else-failed-eq0, else-passed-gt0-via-else-passed-gt0}
 
 pub loop-test-preserved : goal.loop-test-preserved
-loop-test-preserved c =
-    let by : Setting = setting_within 256 c.args.extensions.now in
+loop-test-preserved g c =
+    let by : Setting = setting_with g.F.ExtensionFunctionObject.answers c.args.extensions.now 256 in
     let set_up : List Step = c.args.script.now.set_up.items in
     let tests : List Test = c.args.script.now.tests.items in
     let i : ℕ = c.loop-test.test-index in
@@ -38,8 +38,8 @@ loop-test-preserved c =
     }
 
 pub returns-clause-ran : goal.returns-clause-ran
-returns-clause-ran c =
-    let by : Setting = setting_within 256 c.args.extensions.now in
+returns-clause-ran g c =
+    let by : Setting = setting_with g.F.ExtensionFunctionObject.answers c.args.extensions.now 256 in
     let set_up : List Step = c.args.script.now.set_up.items in
     let tests : List Test = c.args.script.now.tests.items in
     let told : Text = string_bytes c.loop-test.told in
@@ -63,4 +63,4 @@ returns-clause-ran c =
     c.in_ok-push_str.ensures.bytes ∙ ap (λ (t : Text). told ++ t) (c.as_str.ensures.value ∙ c.in_ok-summary.ensures.ok ∙ sym apart)
     in
     Counted-told by c.args.script.now told (string_bytes c.push_str.new.self) c.loop-test.passed c.loop-test.failed c.if-passed-gt0.status
-    (c.args.extensions.now, c.requires.program, refl) counted whole fine
+    counted whole fine

@@ -3,4 +3,4 @@ use Rattle.cedar_authoring.specs.Telling.{Adds, AreBelow}
 use Rattle.cedar_authoring.proofs.wrong.push_faults.Given as goal
 
 abbrev pub invariant-loop-line : goal.invariant-loop-line
-invariant-loop-line l = Adds AreBelow (string_bytes l.fn.told) (string_bytes l.told)
+invariant-loop-line g l = Adds AreBelow (string_bytes l.fn.told) (string_bytes l.told)

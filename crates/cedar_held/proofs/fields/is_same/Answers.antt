@@ -4,4 +4,4 @@ use Rattle.std.specs.Cmp.Lexicographic.{texts_ties}
 use Rattle.cedar_held.proofs.fields.is_same.Goals as goal
 
 pub returns : goal.returns
-returns c = c.eq.ensures ∙ texts_ties c.args.text.now c.args.other.now
+returns c = c.is_same.ensures ∙ texts_ties c.args.text.now c.args.other.now

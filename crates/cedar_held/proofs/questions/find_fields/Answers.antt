@@ -8,12 +8,11 @@ use Rattle.cedar_world.specs.Bodies.{are_among, question_keys}
 use Rattle.cedar_held.proofs.Asked.{another_key}
 use Rattle.cedar_held.proofs.questions.find_fields.Goals as goal
 
-pub returns-in_default-clause-keys : goal.returns-in_default-clause-keys
-returns-in_default-clause-keys c =
+pub returns-in-None-question_key-clause-keys : goal.returns-in-None-question_key-clause-keys
+returns-in-None-question_key-clause-keys c =
     let rest = bare_entries c.next.new.self in
     let tree = bare c.in-Some.value.now in
     sym (c.loop-key.invariant.among
     ∙ ap (λ (es : List (RcStr Global × Expr (Unit {0}))). are_among question_keys (bare_entries es)) c.in-Some.ensures.steps
     ∙ ap (λ (key : Text). are_among question_keys ((key, tree) ∷ rest)) (sym c.as_str.ensures.value)
-    ∙ another_key c.as_str.result.now tree rest c.in_default.not-principal c.in_default.not-principal_type c.in_default.not-action
-    c.in_default.not-resource c.in_default.not-resource_type c.in_default.not-context)
+    ∙ another_key c.as_str.result.now tree rest c.in-None-question_key.ensures.other)

@@ -3,14 +3,14 @@ use Rattle.std.proofs.Common.{◌≡◌, ◌∙◌, suc, ◌-◌, length, map, s
 use Rattle.std.proofs.lemmas.List.{map_push}
 use Rattle.std.specs.Rc.{rc_str_bytes}
 use Rattle.std.specs.Str.{chars}
-use Rattle.cedar_language.specs.Tree.{Tree}
+use Rattle.cedar_language.specs.Tree.{Tree, Lit, Entity}
 use Rattle.cedar_grammar.specs.Build.{Keyed}
-use Rattle.cedar_grammar.specs.Grammar.{Entry, Within, inner}
+use Rattle.cedar_grammar.specs.Grammar.{Entry, Unary, Within, inner}
 use Rattle.cedar_grammar.specs.Token as token
 use Rattle.cedar_grammar.specs.Token.{mark}
 use Rattle.cedar_trees.specs.Bare.{bare, bare_entries}
 use Rattle.cedar_data.specs.Classes.{mark_of}
-use Rattle.cedar_data.specs.Data.{IsData, ReadsKey, ReadsPathTo}
+use Rattle.cedar_data.specs.Data.{IsData, ReadsTree, ReadsKey, ReadsPathTo}
 use Rattle.cedar_data.specs.Takes.{Takes, Reads}
 use Rattle.cedar_data.proofs.Rules.{within, boolean_read, entity_read}
 use Rattle.cedar_data.proofs.Lists.{none_so_far, closed, last_closed, one_more, all_and, list_read, record_read, call_read, entry_read}
@@ -19,7 +19,11 @@ use Rattle.cedar_data.proofs.reader.Reader.+data.Goals as goal
 pub data-returns : goal.data-returns
 data-returns t c =
     let is : c.args.levels ≡ suc (c.args.levels - 1) = omega arith in
-    within c.args.styles.now c.args.levels (c.args.levels - 1) c.args.self.now c.operand.new.self c.in_ok-operand.operand is c.in_ok-operand.ensures
+    within c.args.styles.now c.args.levels (c.args.levels - 1) c.args.self.now c.operand.new.self (bare c.in_ok-operand.operand) is c.in_ok-operand.ensures
+
+pub operand-returns-in_ok-literal-in-34 : goal.operand-returns-in_ok-literal-in-34
+operand-returns-in_ok-literal-in-34 t c =
+    subst (λ x. ReadsTree (Unary (inner c.args.styles.now c.args.levels)) (suc c.args.levels) c.args.self.now x c.literal.new.self) (sym c.val.ensures) (c.in_ok-literal-in-34.ensures c.args.levels c.args.styles.now)
 
 pub list-returns : goal.list-returns
 list-returns t c = list_read c.args.styles.now c.args.levels c.args.self.now c.expect.new.self c.items.new.self c.in_ok-items.items.items _ c.in_ok-expect.ensures c.in_ok-items.ensures c.in_ok-set.ensures
@@ -30,12 +34,13 @@ record-returns-in-Ok t c =
 
 pub named-returns-in-Some : goal.named-returns-in-Some
 named-returns-in-Some t c =
-    boolean_read c.val.result c.args.self.now c.word.new.self c.in_ok-word.word.now c.in-Some.value c.in_ok-word.ensures c.in-Some.ensures.written c.val.ensures c.args.styles.now c.args.levels
+    boolean_read (bare c.val.result) c.args.self.now c.word.new.self c.in_ok-word.word.now c.in-Some.value c.in_ok-word.ensures c.in-Some.ensures.written c.val.ensures c.args.levels c.args.styles.now
 
-pub used-returns-in_ok-entity-in-EntityType : goal.used-returns-in_ok-entity-in-EntityType
-used-returns-in_ok-entity-in-EntityType t c =
+pub used-returns-in_ok-uid-in-EntityType : goal.used-returns-in_ok-uid-in-EntityType
+used-returns-in_ok-uid-in-EntityType t c =
     let path = subst (λ p. ReadsPathTo c.args.first.now c.args.self.now p c.path.new.self) c.in-EntityType.is c.in_ok-path.ensures in
-    entity_read c.args.first.now c.args.self.now (inner c.args.styles.now c.args.levels) c.args.levels c.in-EntityType.entity_type c.path.new.self c.string.new.self (chars c.in_ok-id-in-EntityType.id.now) c.in_ok-id-in-EntityType.id.now _ path c.in_ok-id-in-EntityType.ensures.taken c.in_ok-id-in-EntityType.ensures.plain c.in_ok-entity-in-EntityType.ensures
+    entity_read c.args.first.now c.args.self.now (inner c.args.styles.now c.args.levels) c.args.levels c.in-EntityType.entity_type c.path.new.self c.string.new.self (chars c.in_ok-id-in-EntityType.id.now) c.in_ok-id-in-EntityType.id.now _ path c.in_ok-id-in-EntityType.ensures.taken c.in_ok-id-in-EntityType.ensures.plain
+    (c.val.ensures ∙ ap (λ u. Lit (Entity u)) c.in_ok-uid-in-EntityType.ensures)
 
 pub used-returns-in_ok-call_extension_fn-in-Called : goal.used-returns-in_ok-call_extension_fn-in-Called
 used-returns-in_ok-call_extension_fn-in-Called t c =

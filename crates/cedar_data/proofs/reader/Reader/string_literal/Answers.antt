@@ -1,5 +1,5 @@
 -- A string without escapes stands for itself.
-use Rattle.std.proofs.Common.{◌∙◌, ap}
+use Rattle.std.proofs.Common.{ap}
 use Rattle.std.specs.Str.{chars}
 use Rattle.cedar_language.specs.Tree.{Lit, String}
 use Rattle.cedar_data.proofs.Rules.{string_read}
@@ -7,5 +7,5 @@ use Rattle.cedar_data.proofs.reader.Reader.string_literal.Goals as goal
 
 pub returns : goal.returns
 returns c =
-    string_read c.val.result c.args.self.now c.string.new.self (chars c.in_ok-text.text.now) c.in_ok-text.text.now c.in_ok-text.ensures.taken c.in_ok-text.ensures.plain
-    (c.val.ensures ∙ ap (λ s. Lit (String s)) c.in_ok-from_str.ensures.ok)
+    string_read _ c.args.self.now c.string.new.self (chars c.in_ok-text.text.now) c.in_ok-text.text.now c.in_ok-text.ensures.taken c.in_ok-text.ensures.plain
+    (ap (λ s. Lit (String s)) c.in_ok-from_str.ensures.ok)

@@ -11,7 +11,7 @@ use Rattle.cedar_trees.specs.Bare.{bare, bare_kind}
 use Rattle.cedar_trees.proofs.Bares.{bare_is, bare-Var}
 use Rattle.cedar_interpreter.specs.Forms.{unary_operator}
 use Rattle.cedar_interpreter.specs.Glancing.{value_lent}
-use Rattle.cedar_interpreter.proofs.Glanced.{attribute_tells, one_tells, two_tells, tells_within}
+use Rattle.cedar_interpreter.proofs.Glanced.{attribute_tells, one_tells, two_tells, long_tells, tells_within}
 use Rattle.cedar_interpreter.proofs.evaluator.Evaluator.+glance.Goals as goal
 
 pub glance_attribute-returns-in-Var : goal.glance_attribute-returns-in-Var
@@ -35,3 +35,8 @@ pub glance_two-returns : goal.glance_two-returns
 glance_two-returns g t c =
     two_tells c.args.self.now c.args.depth (binary_operator_of c.args.op) (bare c.args.left.now) (bare c.args.right.now) (value_lent c.in_ok-first.first) (value_lent c.in_ok-second.second) (Plain (Boolean c.in_ok-told.told))
     c.in_ok-first.ensures c.in_ok-second.ensures c.in_ok-told.ensures
+
+pub glance_long-returns : goal.glance_long-returns
+glance_long-returns g t c =
+    long_tells c.args.self.now c.args.depth (binary_operator_of c.args.op) (bare c.args.left.now) (bare c.args.right.now) (value_lent c.in_ok-first.first) (value_lent c.in_ok-second.second) c.long_of_two.result
+    c.in_ok-first.ensures c.in_ok-second.ensures c.long_of_two.ensures

@@ -33,3 +33,12 @@ decreases-glance_two g l = 4 * l.depth + 2
 
 abbrev pub decreases-glance_operand : goal.decreases-glance_operand
 decreases-glance_operand g l = 4 * l.depth + 1
+
+abbrev pub decreases-glance_of_one : goal.decreases-glance_of_one
+decreases-glance_of_one g l = 4 * l.depth + 3
+
+abbrev pub decreases-glance_of_two : goal.decreases-glance_of_two
+decreases-glance_of_two g l = 4 * l.depth + 3
+
+abbrev pub decreases-glance_long : goal.decreases-glance_long
+decreases-glance_long g l = 4 * l.depth + 2

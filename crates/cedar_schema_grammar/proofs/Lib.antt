@@ -1,0 +1,14 @@
+mod Eats
+mod Complete
+mod Sound
+mod DeclarationsSound
+mod Texts
+mod Reaching
+mod SchemaRows
+mod ResolvedRows
+mod Pigeons
+mod Unfolding
+mod Whole
+mod Conforming
+mod Environments
+mod VerdictRows

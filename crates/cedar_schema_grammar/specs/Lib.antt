@@ -1,0 +1,11 @@
+pub mod Syntax
+pub mod Tokens
+pub mod Grammar
+pub mod Reading
+pub mod Reaching
+pub mod Declared
+pub mod Written
+pub mod Faults
+pub mod Resolving
+pub mod Laws
+pub mod Environments

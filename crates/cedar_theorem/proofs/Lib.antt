@@ -1,0 +1,5 @@
+mod Reading
+mod Holding
+mod Asking
+mod Known
+mod Laws

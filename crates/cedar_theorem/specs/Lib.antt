@@ -1,0 +1,5 @@
+pub mod Bodies
+pub mod Holdings
+pub mod Theorem
+pub mod Laws
+pub mod Rows

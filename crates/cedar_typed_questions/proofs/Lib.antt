@@ -1,0 +1,3 @@
+mod Filled
+mod Early
+mod PremisesMet
