@@ -192,7 +192,11 @@ class Told(OverFolder):
         self.assertEqual(grown['cedar_requests_total{call="evaluation",status="200"}'], 40)
         self.assertEqual(grown['cedar_requests_total{call="evaluation",status="400"}'], 1)
         self.assertEqual(after['cedar_request_seconds_bucket{le="+Inf"}'], after["cedar_request_seconds_count"])
-        self.assertEqual(after['cedar_processes{state="all"}'], "2")
+        # (each begins when it can)
+        until = time.monotonic() + 30
+        while self.counts()['cedar_processes{state="ready"}'] != "2" and time.monotonic() < until:
+            time.sleep(0.05)
+        self.assertEqual(self.counts()['cedar_processes{state="all"}'], "2")
 
     def test_no_count_goes_back_where_a_process_ends(self):
         caller = self.caller()
