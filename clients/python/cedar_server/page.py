@@ -19,8 +19,9 @@ class Page:
             self._text = it.read()
         (script,) = re.findall(r"(?s)<script>(.*?)</script>", self._text)
         digest = base64.b64encode(hashlib.sha256(script.encode()).digest()).decode()
-        allowed = f"default-src 'none'; script-src 'sha256-{digest}'; style-src 'unsafe-inline'; connect-src 'self'; img-src data:; frame-ancestors 'none'; base-uri 'none'"
-        self._headers = {"content-security-policy": allowed, "x-content-type-options": "nosniff", "referrer-policy": "no-referrer"}
+        allowed = f"default-src 'none'; script-src 'sha256-{digest}'; style-src 'unsafe-inline'; connect-src 'self'; img-src data:"
+        self._headers = {"content-security-policy": f"{allowed}; frame-ancestors 'none'; base-uri 'none'"}
+        self._headers.update({"x-content-type-options": "nosniff", "referrer-policy": "no-referrer"})
 
     async def show(self, _: Request) -> Response:
         return Response(self._text, headers=self._headers, media_type="text/html")

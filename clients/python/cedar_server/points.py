@@ -2,6 +2,7 @@
 what waits for the database."""
 
 import asyncio
+import logging
 import secrets
 from concurrent.futures import ThreadPoolExecutor
 from time import monotonic
@@ -19,6 +20,7 @@ from .questions import Question
 
 T = TypeVar("T")
 
+_LOGGER = logging.getLogger("gunicorn.error")
 # So long a process waits before it tries again what failed, and so often it looks at the log where nobody edits.
 _AGAIN = 1.0
 
@@ -158,7 +160,9 @@ class CopyPoint(Point):
                 await self._look(self._watching, _AGAIN)
             except Stopped:
                 return
-            except CedarError as why:
+            except Exception as why:
+                if not isinstance(why, CedarError):
+                    _LOGGER.exception("the log can't be followed")
                 if self._copy is None:
                     self._why = f"{type(why).__name__}: {why}"
                 await asyncio.sleep(_AGAIN)

@@ -84,7 +84,8 @@ class Answers(OverFolder):
         self.assertEqual(caller.ask(BOB, hour=9).said["decision"], "deny")
         self.assertEqual(caller.ask(hour="nine").said, {"decision": "deny", "must": [], "may": [], "erring": {"policy0": "TypeError"}, "position": 0})
         unknown = {"principal": ALICE, "action": VIEW, "resource": {"__unknown": {"type": "Photo"}}, "context": {"hour": {"__unknown": "now"}}}
-        self.assertEqual(caller.post("/v1/ask?age=0&position=0", unknown).said, {"decision": "open", "must": [], "may": ["policy0"], "erring": {}, "position": 0})
+        wanted = {"decision": "open", "must": [], "may": ["policy0"], "erring": {}, "position": 0}
+        self.assertEqual(caller.post("/v1/ask?age=0&position=0", unknown).said, wanted)
 
     def test_evaluations_of_authzen(self):
         caller = self.caller()
@@ -143,7 +144,8 @@ class Doors(OverFolder):
                 self.assertEqual(self.caller(token).post(path, body).status, 200, (path, token))
 
     def test_who_asks_does_not_edit(self):
-        for method, path in (("POST", "/v1/policies"), ("PUT", "/v1/entities"), ("POST", "/v1/links"), ("DELETE", "/v1/links/l?expected=1"), ("GET", "/v1/held")):
+        edits = (("POST", "/v1/policies"), ("PUT", "/v1/entities"), ("POST", "/v1/links"), ("DELETE", "/v1/links/l?expected=1"))
+        for method, path in (*edits, ("GET", "/v1/held")):
             self.assertEqual(self.caller(ASKER).call(method, path).fault, (403, "Forbidden", "Authorization:"), path)
 
     def test_who_comes_may_see_whether_it_serves(self):

@@ -109,7 +109,8 @@ class Calls(unittest.TestCase):
             self.assertEqual((reply.status, reply.said["response"]["diagnostics"]["reason"]), (200, ["it"]))
             reply = caller.post("/v1/is_authorized", call({"staticPolicies": "permit("}))
             self.assertEqual(reply.fault, (422, "Refused", "/policies/staticPolicies"))
-            self.assertEqual((reply.said["type"], reply.said["errors"]), ("failure", [{"message": "/policies/staticPolicies refused Text: the policy at line 1 column 1"}]))
+            message = "/policies/staticPolicies refused Text: the policy at line 1 column 1"
+            self.assertEqual((reply.said["type"], reply.said["errors"]), ("failure", [{"message": message}]))
             # Nothing of it stays.
             self.assertEqual(caller.ask(BOB, hour=9).said["decision"], "deny")
 
