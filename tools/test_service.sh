@@ -30,7 +30,7 @@ done
 
 parts=('test_reading test_points test_whole test_calls')
 if (cd clients/python && "$python" -B -c 'import tests.postgres as it; raise SystemExit(not it.tools())'); then
-    parts+=('test_copies' 'test_outages.Outages' 'test_outages.Cuts' 'test_many')
+    parts+=('test_copies' 'test_outages.Outages' 'test_outages.Cuts' 'test_many' 'test_planted')
     if command -v haproxy > "$room/found"; then parts+=('test_three test_page'); else left_out haproxy 'three copies behind it'; fi
 else
     left_out PostgreSQL 'copies'

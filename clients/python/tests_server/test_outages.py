@@ -188,6 +188,11 @@ class Cuts(WithLog):
         for left in range(len(head), len(head + body)):
             with socket.create_connection(("127.0.0.1", service.port), 20) as it:
                 it.sendall((head + body)[:left])
+        # (each has come, and was none)
+        counted, until = f'cedar_requests_total{{call="edit",status="400"}} {len(body)}\n', time.monotonic() + 20
+        while counted not in self.caller(service).get("/metrics").data.decode() and time.monotonic() < until:
+            time.sleep(0.1)
+        self.assertEqual(self.edits(), [])
         self.assertEqual(self.caller(service).post("/v1/policies", ANY).said, {"ids": ["policy0"], "position": 1})
 
     def test_processes_that_are_killed_in_the_middle_of_an_edit(self):
