@@ -1,6 +1,7 @@
 """The processes of a service: a supervisor that begins so many, and anew what ends or falls silent, each with a session of its own."""
 
 import asyncio
+import gc
 import json
 import logging
 import resource
@@ -140,7 +141,10 @@ class Processes(BaseApplication):  # type: ignore[misc]
         settings, worker = self._settings, self._worker
         Protocol.seconds = settings.limits.seconds
         more = More(None if settings.decisions is None else Decisions(settings.decisions), Page() if settings.page else None)
-        return Service(self._point(), settings.doors, settings.limits, self._metrics, self._metrics.row(worker.row), more).app()
+        app = Service(self._point(), settings.doors, settings.limits, self._metrics, self._metrics.row(worker.row), more).app()
+        # (what stays isn't traced for garbage again and again)
+        gc.freeze()
+        return app
 
     def _point(self) -> Point:
         settings = self._settings
