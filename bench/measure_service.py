@@ -168,7 +168,7 @@ def main():
     for name, number in (("--repeat", 5), ("--seconds", 4), ("--processes", 4)):
         given.add_argument(name, type=int, default=number)
     given = given.parse_args()
-    env = {**os.environ, "CEDAR_LIBRARY": os.path.abspath(f"{given.library}/lib/libcedar.so"), "PYTHONPATH": PYTHON}
+    env = {**os.environ, "UV_TCP_SINGLE_ACCEPT": "1", "CEDAR_LIBRARY": os.path.abspath(f"{given.library}/lib/libcedar.so"), "PYTHONPATH": PYTHON}
     if given.memory:
         print("%.0f MiB, begun in %.1f s" % memory(env, 100_000))
         return

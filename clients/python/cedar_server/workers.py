@@ -4,6 +4,7 @@ import asyncio
 import gc
 import json
 import logging
+import os
 import resource
 from dataclasses import dataclass, field
 from typing import Any, List, Optional
@@ -176,4 +177,6 @@ def serve(settings: Settings) -> None:
     """Serves until it is told to end."""
     most = resource.getrlimit(resource.RLIMIT_NOFILE)[1]
     resource.setrlimit(resource.RLIMIT_NOFILE, (most, most))
+    # (libuv takes all connections that wait, unless it is told to leave some to the other processes)
+    os.environ.setdefault("UV_TCP_SINGLE_ACCEPT", "1")
     Processes(settings).run()
