@@ -62,6 +62,7 @@ class Outages(WithLog):
         caller.post("/v1/policies", ANY)
         Shared.server.keep()
         caller.post("/v1/policies", FORBID)
+        self.assertEqual(caller.ask().said["decision"], "deny")
         Shared.server.restore()
         stopped = service.wait("/readyz", 503)
         self.assertEqual(stopped.fault, (503, "NotReady", ""))
