@@ -5,7 +5,8 @@
 # What JSON says too much, or not at all, is refused with its place; calls over HTTP are answered, and refused, by several processes; slow clients,
 # requests that are cut off, 1,000 connections. Copies over a PostgreSQL server on loopback: 10,000 questions by 32 clients with edits between, each
 # answer that of a session of its own at its position; a process is killed in the middle of edits, the database ended, restored from an older backup,
-# full, or silent, replies of the service cut behind each byte. Three copies behind haproxy, as tools/three_copies.py starts them.
+# full, or silent, replies of the service cut behind each byte. Three copies behind haproxy, as tools/three_copies.py starts them; the page, in
+# Chromium; and what docs/SERVICE.md shows.
 # Says what it left out for want of packages, and ends with status 1 where anything fails, or takes more than SECONDS_OF_SERVICE (280).
 set -u
 library=$(realpath "${1:-crates/cedar_c/out/cedar/lib/libcedar.so}")
@@ -27,12 +28,17 @@ for it in python3 /usr/bin/python3; do
 done
 [ -n "$python" ] || { left_out 'starlette, uvicorn, httptools, gunicorn or psycopg 3' 'the service' && exit 0; }
 
-parts=('test_reading test_calls')
+parts=('test_reading test_points test_whole test_calls')
 if (cd clients/python && "$python" -B -c 'import tests.postgres as it; raise SystemExit(not it.tools())'); then
-    parts+=('test_copies.Edits' 'test_copies.Outages' 'test_copies.Cuts' 'test_copies.ManyQuestions')
+    parts+=('test_copies' 'test_outages.Outages' 'test_outages.Cuts' 'test_many' 'test_planted')
     if command -v haproxy > "$room/found"; then parts+=('test_three test_page'); else left_out haproxy 'three copies behind it'; fi
 else
     left_out PostgreSQL 'copies'
+fi
+if "$python" -c 'import selenium' 2> /dev/null && command -v chromium chromedriver > "$room/found"; then
+    parts+=('test_browser')
+else
+    left_out 'chromium, its driver or selenium' 'the page'
 fi
 if command -v mypy > "$room/found"; then
     (cd clients/python && mypy --strict --cache-dir "$room/mypy" cedar_server) || exit 1

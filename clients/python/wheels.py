@@ -48,7 +48,7 @@ def _metadata() -> bytes:
 def _sources() -> Iterator[Tuple[str, bytes]]:
     for package in (PACKAGE, SERVICE):
         for name in sorted(os.listdir(os.path.join(HERE, package))):
-            if name.endswith((".py", ".typed")):
+            if name.endswith((".py", ".typed", ".html")):
                 yield f"{package}/{name}", _read(f"{package}/{name}")
 
 

@@ -28,6 +28,7 @@ def _arguments() -> argparse.ArgumentParser:
     asked.add_argument("--tokens", metavar="FILE", help="those who ask need one of these tokens")
     asked.add_argument("--admins", metavar="FILE", help="those who edit need one of these tokens")
     asked.add_argument("--decisions", metavar="FILE", help="logs each decision there")
+    asked.add_argument("--page", action="store_true", help="serves a page at /, on which policies, entities and a question are tried")
     asked.add_argument("--limit", metavar="BYTES", type=int, default=Limits.body, help=f"bodies are no longer ({Limits.body})")
     asked.add_argument("--seconds", metavar="S", type=float, default=Limits.seconds, help=f"heads and bodies come in that time ({Limits.seconds:g})")
     asked.add_argument("--age", metavar="S", type=float, help="questions that state no age are asked for this one")
@@ -67,6 +68,7 @@ def _settings(given: argparse.Namespace) -> Settings:
         processes=given.processes,
         limits=limits,
         decisions=given.decisions,
+        page=given.page,
         silence=given.silence,
     )
 

@@ -6,9 +6,10 @@ import logging
 from contextlib import asynccontextmanager
 from dataclasses import dataclass
 from time import monotonic, perf_counter
-from typing import AsyncIterator, Awaitable, Callable, Dict, FrozenSet, List, Optional, Tuple
+from types import MappingProxyType
+from typing import AsyncIterator, Awaitable, Callable, Dict, FrozenSet, List, Mapping, Optional, Tuple
 
-from cedar_session import Answer, CedarError, Decision, values
+from cedar_session import Answer, CedarError, Decision, Refused, values
 from starlette.applications import Starlette
 from starlette.exceptions import HTTPException
 from starlette.requests import ClientDisconnect, Request
@@ -19,10 +20,13 @@ from . import reading
 from .decisions import Decisions
 from .faults import Fault, fault_of
 from .metrics import Metrics, Row
+from .page import Page
+from .places import with_place
 from .points import Point
 from .questions import Question, evaluation_of, evaluations_of, question_of
 from .requests import age_of, body_of, header, position_of, query_of
 from .tokens import Doors
+from .whole import answer_of
 
 Endpoint = Callable[[Request], Awaitable[Response]]
 
@@ -30,6 +34,7 @@ _LOGGER = logging.getLogger("gunicorn.error")
 _ENCODER = json.JSONEncoder(ensure_ascii=False, separators=(",", ":"))
 _QUESTION, _EDIT = frozenset(("position", "age")), frozenset(("expected",))
 _NOTHING: FrozenSet[str] = frozenset()
+_NO_MORE: Mapping[str, object] = MappingProxyType({})
 _LINK, _SLOTS = frozenset(("template", "id")), frozenset(("principal", "resource"))
 _TOKEN, _REQUEST, _KEY, _LONGEST = b"authorization", b"x-request-id", b"idempotency-key", 200
 
@@ -43,12 +48,20 @@ class Limits:
     age: Optional[float] = None
 
 
+@dataclass(frozen=True)
+class More:
+    """What a service has where it is asked for."""
+
+    decisions: Optional[Decisions] = None
+    page: Optional[Page] = None
+
+
 class Service:
     """The calls, over what answers in this process."""
 
-    def __init__(self, point: Point, doors: Doors, limits: Limits, metrics: Metrics, row: Row, decisions: Optional[Decisions]):
+    def __init__(self, point: Point, doors: Doors, limits: Limits, metrics: Metrics, row: Row, more: More):
         self._point, self._doors, self._limits = point, doors, limits
-        self._metrics, self._row, self._decisions = metrics, row, decisions
+        self._metrics, self._row, self._decisions, self._page = metrics, row, more.decisions, more.page
 
     def app(self) -> Starlette:
         handlers = {HTTPException: self._no_path}
@@ -62,6 +75,7 @@ class Service:
             ("/access/v1/evaluation", "evaluation", self._evaluation),
             ("/access/v1/evaluations", "evaluations", self._evaluations),
             ("/v1/ask", "ask", self._ask),
+            ("/v1/is_authorized", "whole", self._whole),
         ]
         edits = [
             ("/v1/policies", "POST", self._load),
@@ -74,6 +88,8 @@ class Service:
             ("/v1/entities/remove", "POST", self._entities("remove")),
         ]
         shown = [("/healthz", "other", self._health), ("/readyz", "other", self._ready), ("/metrics", "other", self._counts), ("/v1/held", "held", self._held)]
+        if self._page is not None:
+            shown.append(("/", "other", self._page.show))
         return [
             *(Route(path, self._call(call, do), methods=["POST"]) for path, call, do in questions),
             *(Route(path, self._call("edit", do), methods=[method]) for path, method, do in edits),
@@ -171,6 +187,15 @@ class Service:
                 break
         return _json({"evaluations": found})
 
+    async def _whole(self, request: Request) -> Response:
+        self._doors.let_ask(header(request, _TOKEN))
+        query_of(request, _NOTHING)
+        try:
+            answer = answer_of(await self._json(request))
+        except Fault as why:
+            return _refused(why, {"type": "failure", "errors": [{"message": f"{why.at} {why.text}".lstrip()}], "warnings": []})
+        return _json(answer)
+
     def _evaluated(self, request: Request, question: Question) -> Dict[str, object]:
         answer = self._answer(request, question)
         why = {"reasons": answer.must, "erring": answer.erring, "position": self._point.position}
@@ -194,7 +219,10 @@ class Service:
             policies = body.decode()
         except UnicodeDecodeError as why:
             raise Fault(400, "NotUtf8", f"byte {why.start} isn't UTF-8") from why
-        ids, position = await self._edited(request, "load", policies)
+        try:
+            ids, position = await self._edited(request, "load", policies)
+        except Refused as why:
+            raise with_place(fault_of(why), policies) from why
         return _json({"ids": ids, "position": position})
 
     async def _link(self, request: Request) -> Response:
@@ -248,8 +276,8 @@ def _json(said: object, status: int = 200) -> Response:
     return Response(_ENCODER.encode(said), status, media_type="application/json")
 
 
-def _refused(why: Fault) -> Response:
-    response = _json(why.body(), why.status)
+def _refused(why: Fault, more: Mapping[str, object] = _NO_MORE) -> Response:
+    response = _json({**more, **why.body()}, why.status)
     if why.status == 401:
         response.headers["www-authenticate"] = "Bearer"
     return response

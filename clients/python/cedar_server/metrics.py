@@ -6,7 +6,7 @@ import mmap
 import os
 from typing import Dict, Iterator, List, Tuple
 
-CALLS = ("evaluation", "evaluations", "ask", "edit", "held", "other")
+CALLS = ("evaluation", "evaluations", "ask", "whole", "edit", "held", "other")
 STATUSES = (200, 400, 401, 403, 404, 405, 408, 409, 413, 415, 422, 428, 500, 503)
 DECISIONS = ("allow", "deny", "open")
 # The upper bounds of the times that requests take, in seconds.

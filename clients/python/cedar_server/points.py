@@ -2,6 +2,7 @@
 what waits for the database."""
 
 import asyncio
+import logging
 import secrets
 from concurrent.futures import ThreadPoolExecutor
 from time import monotonic
@@ -9,10 +10,9 @@ from typing import Callable, Iterable, List, Optional, Tuple, TypeVar
 
 import cedar_session as cedar
 from cedar_session import Answer, CedarError, NotOpen, Refused
-from cedar_session.commands import encoded, ids_of
+from cedar_session.commands import EDITS, encoded, ids_of
 from cedar_session.copies import Behind, Broken, Copy, Log, LogError, NoLog, Place, Stopped
 from cedar_session.held import Held
-from cedar_session.log import Edit
 
 from . import folder
 from .faults import Fault
@@ -20,6 +20,7 @@ from .questions import Question
 
 T = TypeVar("T")
 
+_LOGGER = logging.getLogger("gunicorn.error")
 # So long a process waits before it tries again what failed, and so often it looks at the log where nobody edits.
 _AGAIN = 1.0
 
@@ -63,9 +64,10 @@ class Point:
 class FolderPoint(Point):
     """A session of what a folder had when it was read, by these edits."""
 
-    def __init__(self, edits: Iterable[folder.Edit]):
+    def __init__(self, edits: Iterable[folder.Edit], beat: Callable[[], None]):
         self._session = cedar.Session()
         for edit in edits:
+            beat()
             self._session.command(*edit)
 
     def ask(self, question: Question) -> Answer:
@@ -97,10 +99,10 @@ class _Line:
 
 
 class CopyPoint(Point):
-    """A copy of a log. `beat` is called while it reads what the log has, which may take long."""
+    """A copy of a log. `beat` is called before each edit, since those of a long log take long."""
 
     def __init__(self, database: str, name: str, seconds: float, beat: Callable[[], None]):
-        self._own = _BeatingLog(database, name, seconds, beat)
+        self._own, self._beat = Log(database, name, seconds), beat
         # One watches the log, on the other edits go, and questions look that ask for an age.
         self._watching, self._asking = (_Line(Log(database, name, seconds)) for _ in range(2))
         self._copy: Optional[Copy] = None
@@ -158,7 +160,9 @@ class CopyPoint(Point):
                 await self._look(self._watching, _AGAIN)
             except Stopped:
                 return
-            except CedarError as why:
+            except Exception as why:
+                if not isinstance(why, CedarError):
+                    _LOGGER.exception("the log can't be followed")
                 if self._copy is None:
                     self._why = f"{type(why).__name__}: {why}"
                 await asyncio.sleep(_AGAIN)
@@ -178,7 +182,7 @@ class CopyPoint(Point):
         # (a database that doesn't answer keeps the other thread waiting)
         await self._watching.do(Log.end)
         since = monotonic()
-        self._copy = Copy.begin(self._own, cedar.Session)
+        self._copy = Copy.begin(self._own, lambda: _Session(self._beat))
         self._why, self._seen = "", since
 
     async def _look(self, line: _Line, seconds: float = 0) -> None:
@@ -197,16 +201,17 @@ class CopyPoint(Point):
             raise
 
 
-class _BeatingLog(Log):
-    """A log that says so whenever it has read some."""
+class _Session(cedar.Session):
+    """A session that says so before each edit: those of a long log take long."""
 
-    def __init__(self, database: str, name: str, seconds: float, beat: Callable[[], None]):
-        super().__init__(database, name, seconds)
+    def __init__(self, beat: Callable[[], None]):
+        super().__init__()
         self._beat = beat
 
-    def after(self, place: Place, until: int) -> List[Edit]:
-        self._beat()
-        return super().after(place, until)
+    def line(self, verb: str, body: str) -> str:
+        if verb in EDITS:
+            self._beat()
+        return super().line(verb, body)
 
 
 def _is_same(log: Log, place: Place, seconds: float) -> Tuple[bool, float]:

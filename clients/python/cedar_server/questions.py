@@ -7,7 +7,7 @@ from cedar_session import UNKNOWN, Entity, UnknownPart
 from cedar_session.values import Context, Part, Value
 
 from .faults import Fault
-from .reading import fields, named, no, record, record_of, text, uid
+from .reading import fields, named, no, record_of, text, uid
 
 # So many questions stand in one call at most: all are answered at one position, and nothing else meanwhile.
 MOST = 1_000

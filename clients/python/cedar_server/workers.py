@@ -12,10 +12,11 @@ from uvicorn.protocols.http.httptools_impl import HttpToolsProtocol  # type: ign
 from uvicorn.workers import UvicornWorker  # type: ignore[import]
 
 from . import folder
-from .app import Limits, Service
+from .app import Limits, More, Service
 from .decisions import Decisions
 from .faults import Fault
 from .metrics import Metrics
+from .page import Page
 from .points import CopyPoint, FolderPoint, Point
 from .tokens import Doors
 
@@ -39,6 +40,7 @@ class Settings:
     processes: int = 1
     limits: Limits = field(default_factory=Limits)
     decisions: Optional[str] = None
+    page: bool = False
     # So many seconds the database may take for one answer, and a process may be silent.
     wait: float = 5
     silence: int = 120
@@ -137,14 +139,13 @@ class Processes(BaseApplication):  # type: ignore[misc]
         """What a process serves."""
         settings, worker = self._settings, self._worker
         Protocol.seconds = settings.limits.seconds
-        decisions = None if settings.decisions is None else Decisions(settings.decisions)
-        service = Service(self._point(), settings.doors, settings.limits, self._metrics, self._metrics.row(worker.row), decisions)
-        return service.app()
+        more = More(None if settings.decisions is None else Decisions(settings.decisions), Page() if settings.page else None)
+        return Service(self._point(), settings.doors, settings.limits, self._metrics, self._metrics.row(worker.row), more).app()
 
     def _point(self) -> Point:
         settings = self._settings
         if settings.database is None:
-            return FolderPoint(self._edits)
+            return FolderPoint(self._edits, self._worker.notify)
         return CopyPoint(settings.database, settings.log, settings.wait, self._worker.notify)
 
     def _before(self, _: Any, worker: Any) -> None:

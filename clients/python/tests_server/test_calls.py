@@ -15,6 +15,7 @@ EVALUATION, EVALUATIONS = "/access/v1/evaluation", "/access/v1/evaluations"
 REASONS = {"reasons": ["policy0"], "erring": {}, "position": 0}
 NONE = {"reasons": [], "erring": {}, "position": 0}
 TOKEN = {"token": ADMIN}
+WHOLE = {"principal": ALICE, "action": VIEW, "resource": PHOTO, "policies": {"staticPolicies": ANY}}
 
 # A method, a path, a body and what more is sent; the status, the kind and the place of the fault.
 FAULTS = (
@@ -83,7 +84,8 @@ class Answers(OverFolder):
         self.assertEqual(caller.ask(BOB, hour=9).said["decision"], "deny")
         self.assertEqual(caller.ask(hour="nine").said, {"decision": "deny", "must": [], "may": [], "erring": {"policy0": "TypeError"}, "position": 0})
         unknown = {"principal": ALICE, "action": VIEW, "resource": {"__unknown": {"type": "Photo"}}, "context": {"hour": {"__unknown": "now"}}}
-        self.assertEqual(caller.post("/v1/ask?age=0&position=0", unknown).said, {"decision": "open", "must": [], "may": ["policy0"], "erring": {}, "position": 0})
+        wanted = {"decision": "open", "must": [], "may": ["policy0"], "erring": {}, "position": 0}
+        self.assertEqual(caller.post("/v1/ask?age=0&position=0", unknown).said, wanted)
 
     def test_evaluations_of_authzen(self):
         caller = self.caller()
@@ -134,7 +136,7 @@ class Doors(OverFolder):
     more = ("--tokens", "ROOM/tokens")
 
     def test_none_is_let_in_without_a_token(self):
-        calls = (("/v1/ask", question(hour=9)), (EVALUATION, evaluation(hour=9)), (EVALUATIONS, evaluation(hour=9)))
+        calls = (("/v1/ask", question(hour=9)), (EVALUATION, evaluation(hour=9)), (EVALUATIONS, evaluation(hour=9)), ("/v1/is_authorized", WHOLE))
         for path, body in calls:
             for token in (None, "x", ASKER[:-1], ASKER + "x", ADMIN.upper()):
                 self.assertEqual(self.caller(token).post(path, body).fault, (401, "Unauthorized", "Authorization:"), (path, token))
@@ -142,7 +144,8 @@ class Doors(OverFolder):
                 self.assertEqual(self.caller(token).post(path, body).status, 200, (path, token))
 
     def test_who_asks_does_not_edit(self):
-        for method, path in (("POST", "/v1/policies"), ("PUT", "/v1/entities"), ("POST", "/v1/links"), ("DELETE", "/v1/links/l?expected=1"), ("GET", "/v1/held")):
+        edits = (("POST", "/v1/policies"), ("PUT", "/v1/entities"), ("POST", "/v1/links"), ("DELETE", "/v1/links/l?expected=1"))
+        for method, path in (*edits, ("GET", "/v1/held")):
             self.assertEqual(self.caller(ASKER).call(method, path).fault, (403, "Forbidden", "Authorization:"), path)
 
     def test_who_comes_may_see_whether_it_serves(self):
@@ -190,8 +193,14 @@ class Told(OverFolder):
         self.assertEqual(grown['cedar_decisions_total{decision="deny"}'], 31)
         self.assertEqual(grown['cedar_requests_total{call="evaluation",status="200"}'], 40)
         self.assertEqual(grown['cedar_requests_total{call="evaluation",status="400"}'], 1)
-        self.assertEqual(after['cedar_request_seconds_bucket{le="+Inf"}'], after["cedar_request_seconds_count"])
-        self.assertEqual(after['cedar_processes{state="all"}'], "2")
+        requests = sum(int(value) for name, value in after.items() if name.startswith("cedar_requests_total"))
+        for name in ('cedar_request_seconds_bucket{le="+Inf"}', "cedar_request_seconds_count"):
+            self.assertEqual(int(after[name]), requests, name)
+        # (each begins when it can)
+        until = time.monotonic() + 30
+        while self.counts()['cedar_processes{state="ready"}'] != "2" and time.monotonic() < until:
+            time.sleep(0.05)
+        self.assertEqual(self.counts()['cedar_processes{state="all"}'], "2")
 
     def test_no_count_goes_back_where_a_process_ends(self):
         caller = self.caller()

@@ -180,7 +180,8 @@ class Questions(Reads):
         with cedar.Session() as session:
             session.load('permit(principal == User::"root", action, resource); permit(principal, action, resource) when { context has admin };')
             for name in nasty:
-                asked = question_of(reading.read(json.dumps({"principal": {"type": "User", "id": name}, "action": A, "resource": R, "context": {"x": name}}).encode()))
+                given = {"principal": {"type": "User", "id": name}, "action": A, "resource": R, "context": {"x": name}}
+                asked = question_of(reading.read(json.dumps(given).encode()))
                 answer = session.ask(principal=asked.principal, action=asked.action, resource=asked.resource, context=asked.context)
                 self.assertEqual((answer.decision, answer.erring), (cedar.Decision.DENY, {}), name)
 
