@@ -3,12 +3,13 @@
 clients/python/cedar_server answers in a second, over 1,000 grants, beside an empty handler of the same framework, server and supervisor, that
 reads the body and answers a constant.
 
-Both are driven by wrk over loopback, in turn, N times (5) for S seconds (4) each. Printed are the questions a second of the best runs, and what of
-the processors' time each took in all, which says more on a machine that does other things too. Then hey asks half as many questions a second
-as the service's best, and says how long the slowest of 100 took. With --memory a log of 100,000 grants is made in a PostgreSQL server of the
-script's own, and what a process of a copy over it has of memory is printed, and how long it takes to begin.
+Each is driven by wrk over loopback, in turn, N times (5) for S seconds (4): the empty handler; the service by questions of which none was asked
+before; the service by one question again and again, whose answer it remembers. Printed are the questions a second of the best runs, and what of the
+processors' time each took, which says more on a machine that does other things too; then, at half the load, how long questions take of which
+none was asked before. With --memory a log of 100,000 grants is made in a PostgreSQL server of the script's own, and what a process of a copy
+over it has of memory is printed, and how long it takes to begin.
 
-Takes Debian's wrk and hey, and the packages of docs/SERVICE.md, under the Python that has them."""
+Takes Debian's wrk, and the packages of docs/SERVICE.md, under the Python that has them."""
 
 import argparse
 import contextlib
@@ -25,8 +26,16 @@ PYTHON = os.path.join(os.path.dirname(os.path.dirname(os.path.realpath(__file__)
 sys.path.insert(0, PYTHON)
 
 FOLDER, PORT = "crates/cedar_c/out/cedar", 8190
-BODY = '{"subject": {"type": "User", "id": "u7"}, "action": {"name": "view"}, "resource": {"type": "Photo", "id": "7"}, "context": {"hour": 9}}'
-SCRIPT = f"wrk.method = 'POST'\nwrk.body = '{BODY}'\nwrk.headers['Content-Type'] = 'application/json'\n"
+BODY = '{"subject": {"type": "User", "id": "u7"}, "action": {"name": "view"}, "resource": {"type": "Photo", "id": "7"}, "context": {"n": NUMBER}}'
+SAME = f"wrk.method = 'POST'\nwrk.body = '{BODY.replace('NUMBER', '1')}'\n"
+OTHER = f"""
+local threads = 0
+function setup(thread) thread:set("number", threads * 1000000000) threads = threads + 1 end
+function request()
+    number = number + 1
+    return wrk.format("POST", nil, nil, string.format('{BODY.replace('NUMBER', '%d')}', number))
+end
+"""
 PATH, CONNECTIONS = "/access/v1/evaluation", 32
 PORTION = 10_000
 EMPTY = """
@@ -97,25 +106,39 @@ def processor_seconds(process):
     return ticks / os.sysconf("SC_CLK_TCK")
 
 
-def asked(words, env, script, seconds):
+def driven(script, seconds, room):
+    """What wrk says of a service."""
+    path = os.path.join(room, "wrk.lua")
+    with open(path, "w", encoding="ascii") as it:
+        it.write(script)
+    command = ["wrk", "--latency", "-t2", f"-c{CONNECTIONS}", f"-d{seconds}", "-s", path, f"http://127.0.0.1:{PORT}{PATH}"]
+    said = subprocess.run(command, check=True, capture_output=True, text=True).stdout
+    if "Non-2xx" in said:
+        raise SystemExit(said)
+    return said
+
+
+def rate_of(said):
+    return float(re.search(r"Requests/sec:\s+([\d.]+)", said)[1])
+
+
+def asked(words, env, script, seconds, room):
     """Questions a second, and microseconds of processors for one."""
     with served(words, env) as process:
         before = processor_seconds(process)
-        command = ["wrk", "-t2", f"-c{CONNECTIONS}", f"-d{seconds}", "-s", script, f"http://127.0.0.1:{PORT}{PATH}"]
-        said = subprocess.run(command, check=True, capture_output=True, text=True).stdout
+        said = driven(script, seconds, room)
         used = processor_seconds(process) - before
-    if "Non-2xx" in said:
-        raise SystemExit(said)
-    return float(re.search(r"Requests/sec:\s+([\d.]+)", said)[1]), used / int(re.search(r"(\d+) requests in", said)[1]) * 1e6
+    return rate_of(said), used / int(re.search(r"(\d+) requests in", said)[1]) * 1e6
 
 
-def slowest(words, env, rate, seconds):
-    """How long the slowest of 2 and of 100 questions take, in milliseconds, at so many a second."""
+def slowest(words, env, rate, seconds, room):
+    """The rate that was reached, and how long the slowest of 2 and of 100 questions take, in milliseconds."""
+    paced = f"{OTHER}function delay() return {int(CONNECTIONS / rate * 1000)} end\n"
     with served(words, env):
-        paced = ["-z", f"{seconds}s", "-c", str(CONNECTIONS), "-q", str(rate / CONNECTIONS), "-m", "POST", "-T", "application/json", "-d", BODY]
-        said = subprocess.run(["hey", *paced, f"http://127.0.0.1:{PORT}{PATH}"], check=True, capture_output=True, text=True).stdout
-    rate, half, all_but_one = (float(re.search(it, said)[1]) for it in (r"Requests/sec:\s+([\d.]+)", r"50%+ in ([\d.]+)", r"99%+ in ([\d.]+)"))
-    return rate, half * 1e3, all_but_one * 1e3
+        said = driven(paced, seconds, room)
+    units = {"us": 1e-3, "ms": 1, "s": 1e3}
+    times = [re.search(rf"{it}%\s+([\d.]+)(us|ms|s)", said) for it in (50, 99)]
+    return (rate_of(said), *(float(it[1]) * units[it[2]] for it in times))
 
 
 def memory(env, count):
@@ -145,24 +168,21 @@ def main():
     for name, number in (("--repeat", 5), ("--seconds", 4), ("--processes", 4)):
         given.add_argument(name, type=int, default=number)
     given = given.parse_args()
-    env = {**os.environ, "CEDAR_LIBRARY": os.path.abspath(f"{given.library}/lib/libcedar.so"), "PYTHONPATH": PYTHON}
+    env = {**os.environ, "UV_TCP_SINGLE_ACCEPT": "1", "CEDAR_LIBRARY": os.path.abspath(f"{given.library}/lib/libcedar.so"), "PYTHONPATH": PYTHON}
     if given.memory:
         print("%.0f MiB, begun in %.1f s" % memory(env, 100_000))
         return
     with tempfile.TemporaryDirectory() as room:
         fill(room, 1_000)
-        script = os.path.join(room, "wrk.lua")
-        with open(script, "w", encoding="ascii") as it:
-            it.write(SCRIPT)
         address, count = f"127.0.0.1:{PORT}", str(given.processes)
         empty, full = ["-c", EMPTY, PATH, address, count], ["-m", "cedar_server", room, "--address", address, "--processes", count]
-        runs = [(asked(empty, env, script, given.seconds), asked(full, env, script, given.seconds)) for _ in range(given.repeat)]
-        best = [max(it[way][0] for it in runs) for way in (0, 1)]
-        least = [min(it[way][1] for it in runs) for way in (0, 1)]
-        print(f"the empty handler: {best[0]:,.0f} a second, {least[0]:.0f} µs of processors; the service: {best[1]:,.0f} and {least[1]:.0f}")
-        print(f"of the empty handler's questions a second {best[1] / best[0]:.2f}, by processors' time {least[0] / least[1]:.2f}")
-        rate, half, all_but_one = slowest(full, env, best[1] / 2, given.seconds)
-        print(f"at {rate:,.0f} a second half take less than {half:.1f} ms, 99 of 100 less than {all_but_one:.1f} ms")
+        ways = (("the empty handler", empty, SAME), ("questions that are new", full, OTHER), ("one that is remembered", full, SAME))
+        runs = [[asked(words, env, script, given.seconds, room) for _, words, script in ways] for _ in range(given.repeat)]
+        best = [(max(it[0] for it in way), min(it[1] for it in way)) for way in zip(*runs)]
+        for (name, *_), (rate, used) in zip(ways, best):
+            print(f"{name}: {rate:,.0f} a second, {rate / best[0][0]:.2f} of the first; {used:.0f} µs of processors, {best[0][1] / used:.2f}")
+        rate, half, all_but_one = slowest(full, env, best[1][0] / 2, given.seconds, room)
+        print(f"at {rate:,.0f} new ones a second half take less than {half:.1f} ms, 99 of 100 less than {all_but_one:.1f} ms")
 
 
 if __name__ == "__main__":

@@ -17,13 +17,14 @@ from starlette.responses import Response
 from starlette.routing import Route
 
 from . import reading
-from .decisions import Decisions
+from .decisions import Decisions, told_of
 from .faults import Fault, fault_of
 from .metrics import Metrics, Row
 from .page import Page
 from .places import with_place
 from .points import Point
 from .questions import Question, evaluation_of, evaluations_of, question_of
+from .remembered import Given, Remembered
 from .requests import age_of, body_of, header, position_of, query_of
 from .tokens import Doors
 from .whole import answer_of
@@ -62,6 +63,7 @@ class Service:
     def __init__(self, point: Point, doors: Doors, limits: Limits, metrics: Metrics, row: Row, more: More):
         self._point, self._doors, self._limits = point, doors, limits
         self._metrics, self._row, self._decisions, self._page = metrics, row, more.decisions, more.page
+        self._remembered = Remembered()
 
     def app(self) -> Starlette:
         handlers = {HTTPException: self._no_path}
@@ -135,7 +137,7 @@ class Service:
 
     def _told(self, request: Request, call: str, response: Response, seconds: float) -> Response:
         self._row.requested(call, response.status_code, seconds)
-        given = _given(request)
+        given = _name_of(request)
         if given is not None:
             response.headers["x-request-id"] = given
         return response
@@ -151,41 +153,57 @@ class Service:
 
     # ---- questions
 
-    async def _asked(self, request: Request) -> object:
+    async def _asked(self, request: Request) -> bytes:
         """The body of a question, once this process has come to where it is asked."""
         self._doors.let_ask(header(request, _TOKEN))
         query = query_of(request, _QUESTION)
         position, age = position_of(query, "position"), age_of(query)
-        body = await self._json(request)
+        body = await body_of(request, self._limits.body)
         await self._point.come(position or 0, self._limits.age if age is None else age)
         return body
 
-    def _answer(self, request: Request, question: Question) -> Answer:
-        answer = self._point.ask(question)
+    def _answered(self, request: Request, call: str, body: bytes, ask: Callable[[bytes], Given]) -> Response:
+        """What one question is answered, from what is remembered where this process answers questions at all."""
+        decision, said, line = ask(body) if self._point.why_not() else self._remembered.of(call, body, self._point.position, ask)
+        self._tell(request, decision, line)
+        return Response(said, media_type="application/json")
+
+    def _line(self, question: Question, answer: Answer) -> str:
+        return "" if self._decisions is None else told_of(question, answer)
+
+    def _tell(self, request: Request, decision: str, line: str) -> None:
         if self._decisions is not None:
-            self._decisions.tell(question, answer, self._point.position, _given(request))
-        self._row.decided(answer.decision.value)
-        return answer
+            self._decisions.tell(line, self._point.position, _name_of(request))
+        self._row.decided(decision)
 
     async def _ask(self, request: Request) -> Response:
-        question = question_of(await self._asked(request))
-        answer = self._answer(request, question)
-        decision, position = answer.decision.value, self._point.position
-        return _json({"decision": decision, "must": answer.must, "may": answer.may, "erring": answer.erring, "position": position})
+        return self._answered(request, "ask", await self._asked(request), self._of_ask)
+
+    def _of_ask(self, body: bytes) -> Given:
+        question = question_of(reading.read(body))
+        answer, position = self._point.ask(question), self._point.position
+        decision: str = answer.decision.value
+        shown = {"decision": decision, "must": answer.must, "may": answer.may, "erring": answer.erring, "position": position}
+        return decision, _ENCODER.encode(shown), self._line(question, answer)
 
     async def _evaluation(self, request: Request) -> Response:
-        return _json(self._evaluated(request, evaluation_of(await self._asked(request))))
+        return self._answered(request, "evaluation", await self._asked(request), self._of_evaluation)
+
+    def _of_evaluation(self, body: bytes) -> Given:
+        question = evaluation_of(reading.read(body))
+        answer = self._point.ask(question)
+        return answer.decision.value, _ENCODER.encode(_evaluated(answer, self._point.position)), self._line(question, answer)
 
     async def _evaluations(self, request: Request) -> Response:
-        asked = evaluations_of(await self._asked(request))
-        if asked.is_one:
-            return _json(self._evaluated(request, asked.questions[0]))
+        asked = evaluations_of(reading.read(await self._asked(request)))
         found = []
         for question in asked.questions:
-            found.append(self._evaluated(request, question))
+            answer = self._point.ask(question)
+            found.append(_evaluated(answer, self._point.position))
+            self._tell(request, answer.decision.value, self._line(question, answer))
             if found[-1]["decision"] is asked.last:
                 break
-        return _json({"evaluations": found})
+        return _json(found[0] if asked.is_one else {"evaluations": found})
 
     async def _whole(self, request: Request) -> Response:
         self._doors.let_ask(header(request, _TOKEN))
@@ -195,11 +213,6 @@ class Service:
         except Fault as why:
             return _refused(why, {"type": "failure", "errors": [{"message": f"{why.at} {why.text}".lstrip()}], "warnings": []})
         return _json(answer)
-
-    def _evaluated(self, request: Request, question: Question) -> Dict[str, object]:
-        answer = self._answer(request, question)
-        why = {"reasons": answer.must, "erring": answer.erring, "position": self._point.position}
-        return {"decision": answer.decision is Decision.ALLOW, "context": why}
 
     # ---- edits
 
@@ -272,6 +285,11 @@ class Service:
         return Response(self._metrics.text(monotonic()), media_type="text/plain; version=0.0.4")
 
 
+def _evaluated(answer: Answer, position: int) -> Dict[str, object]:
+    """An answer as AuthZEN has it."""
+    return {"decision": answer.decision is Decision.ALLOW, "context": {"reasons": answer.must, "erring": answer.erring, "position": position}}
+
+
 def _json(said: object, status: int = 200) -> Response:
     return Response(_ENCODER.encode(said), status, media_type="application/json")
 
@@ -283,7 +301,7 @@ def _refused(why: Fault, more: Mapping[str, object] = _NO_MORE) -> Response:
     return response
 
 
-def _given(request: Request) -> Optional[str]:
+def _name_of(request: Request) -> Optional[str]:
     """The name that the client gave its request."""
     given = header(request, _REQUEST)
     return given if given and len(given) <= _LONGEST else None

@@ -20,28 +20,31 @@ class Decisions:
     def __init__(self, path: str):
         self._file = os.open(path, os.O_WRONLY | os.O_APPEND | os.O_CREAT | os.O_CLOEXEC, 0o640)
 
-    def tell(self, question: Question, answer: Answer, position: int, request: Optional[str]) -> None:
-        """Adds the line of a decision. The question's context isn't in it."""
-        line = {
-            "time": datetime.now(timezone.utc).isoformat(timespec="milliseconds"),
-            "request": request,
-            "principal": _part(question.principal),
-            "action": _part(question.action),
-            "resource": _part(question.resource),
-            "decision": answer.decision.value,
-            "must": answer.must,
-            "may": answer.may,
-            "erring": answer.erring,
-            "position": position,
-            "process": os.getpid(),
-        }
-        data = _ENCODER.encode(line).encode() + b"\n"
+    def tell(self, told: str, position: int, request: Optional[str]) -> None:
+        """Adds the line of a decision, which `told_of` has said."""
+        now = datetime.now(timezone.utc).isoformat(timespec="milliseconds")
+        name = "null" if request is None else _ENCODER.encode(request)
+        data = f'{{"time":"{now}","request":{name},{told},"position":{position},"process":{os.getpid()}}}\n'.encode()
         try:
             written = os.write(self._file, data)
         except OSError as why:
             raise Fault(503, "NoDecisionLog", f"the log of decisions can't be written: {why.strerror}") from why
         if written != len(data):
             raise Fault(503, "NoDecisionLog", "the log of decisions is full")
+
+
+def told_of(question: Question, answer: Answer) -> str:
+    """What a line says of a question and its answer, as fields in JSON. The question's context isn't among them."""
+    told = {
+        "principal": _part(question.principal),
+        "action": _part(question.action),
+        "resource": _part(question.resource),
+        "decision": answer.decision.value,
+        "must": answer.must,
+        "may": answer.may,
+        "erring": answer.erring,
+    }
+    return _ENCODER.encode(told)[1:-1]
 
 
 def _part(part: Part) -> Optional[object]:

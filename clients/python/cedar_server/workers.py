@@ -1,8 +1,10 @@
 """The processes of a service: a supervisor that begins so many, and anew what ends or falls silent, each with a session of its own."""
 
 import asyncio
+import gc
 import json
 import logging
+import os
 import resource
 from dataclasses import dataclass, field
 from typing import Any, List, Optional
@@ -140,7 +142,10 @@ class Processes(BaseApplication):  # type: ignore[misc]
         settings, worker = self._settings, self._worker
         Protocol.seconds = settings.limits.seconds
         more = More(None if settings.decisions is None else Decisions(settings.decisions), Page() if settings.page else None)
-        return Service(self._point(), settings.doors, settings.limits, self._metrics, self._metrics.row(worker.row), more).app()
+        app = Service(self._point(), settings.doors, settings.limits, self._metrics, self._metrics.row(worker.row), more).app()
+        # (what stays isn't traced for garbage again and again)
+        gc.freeze()
+        return app
 
     def _point(self) -> Point:
         settings = self._settings
@@ -172,4 +177,6 @@ def serve(settings: Settings) -> None:
     """Serves until it is told to end."""
     most = resource.getrlimit(resource.RLIMIT_NOFILE)[1]
     resource.setrlimit(resource.RLIMIT_NOFILE, (most, most))
+    # (libuv takes all connections that wait, unless it is told to leave some to the other processes)
+    os.environ.setdefault("UV_TCP_SINGLE_ACCEPT", "1")
     Processes(settings).run()

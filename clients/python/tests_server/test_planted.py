@@ -35,6 +35,8 @@ PLANTED = (
     ("requests", "raise ClientDisconnect()", "return body", f"{OUTAGES}.Cuts.test_requests_that_are_cut_off"),
     ("decisions", 'raise Fault(503, "NoDecisionLog", f"the log of decisions can\'t', 'print(f"', f"{CALLS}.FullLog"),
     ("metrics", 'count += self._sum(("le", bound))', 'count = self._sum(("le", bound))', f"{CALLS}.Told.test_each_decision_is_told"),
+    ("remembered", "if position != self._position or len", "if len", "test_points.Remembers"),
+    ("app", "ask(body) if self._point.why_not() else self._rem", "self._rem", f"{OUTAGES}.Outages.test_an_older_backup_is_restored"),
     ("workers", "self._whole = self.loop.call_later(self.seconds, self._is_late)", "pass", f"{CALLS}.Clients.test_a_head_that_does_not_come"),
     ("points", "self._session.command(*edit)", "self._session.line(*edit)", "test_points.Folders"),
     ("points", "line = self._use(lambda copy: copy.edit(key=named)", "line = self._use(lambda copy: copy", f"{EDITS}.test_each_edit"),

@@ -6,6 +6,7 @@ from cedar_session import Decision, Entity, Refused
 
 from cedar_server.points import FolderPoint
 from cedar_server.questions import Question
+from cedar_server.remembered import Remembered
 
 
 class Folders(unittest.TestCase):
@@ -22,6 +23,29 @@ class Folders(unittest.TestCase):
     def test_no_process_serves_what_lacks_an_edit(self):
         with self.assertRaises(Refused):
             FolderPoint([("load", "permit(principal, action, resource);"), ("load", "forbid(")], lambda: None)
+
+
+class Remembers(unittest.TestCase):
+    def test_nothing_of_another_position_or_call(self):
+        remembered, asked = Remembered(), []
+
+        def of(call, body, position):
+            def ask(given):
+                asked.append((call, given, position))
+                return "allow", f"{call} {given.decode()} at {position}", ""
+
+            return remembered.of(call, body, position, ask)[1]
+
+        for call, body, position in (("ask", b"a", 1), ("ask", b"a", 1), ("ask", b"b", 1), ("evaluation", b"a", 1), ("ask", b"a", 2), ("ask", b"a", 1)):
+            self.assertEqual(of(call, body, position), f"{call} {body.decode()} at {position}")
+        self.assertEqual(asked, [("ask", b"a", 1), ("ask", b"b", 1), ("evaluation", b"a", 1), ("ask", b"a", 2), ("ask", b"a", 1)])
+
+    def test_neither_long_bodies_nor_too_many(self):
+        remembered, asked = Remembered(), []
+        for body in (b"x" * 2000, b"x" * 2000, *(b"%d" % it for it in range(10_000)), b"9999", b"0"):
+            remembered.of("ask", body, 0, lambda it: asked.append(it) or ("deny", "", ""))
+        self.assertEqual(len(asked), 10_003)
+        self.assertLess(len(remembered._given), 5_000)
 
 
 if __name__ == "__main__":
