@@ -180,9 +180,10 @@ def _do_each(wanted: "SimpleQueue[Optional[_Wanted]]") -> None:
 
 
 class SessionThread(Commands):
-    """A session on a thread of its own, which has the stack for its limit of depth. Any thread may use it, one at a time."""
+    """A session, as `Session` opens one, on a thread of its own, which has the stack for its limit of depth. Any thread may use it, one
+    at a time."""
 
-    def __init__(self, depth: int = DEPTH, library: Optional[str] = None):
+    def __init__(self, depth: int = DEPTH, library: Optional[str] = None, types: Optional[bool] = None):
         super().__init__()
         self.depth, self._process = depth, os.getpid()
         # (the system takes whole pages)
@@ -192,7 +193,7 @@ class SessionThread(Commands):
         except (RuntimeError, ValueError) as why:
             raise BadValue(f"no thread has a stack of {stack} bytes") from why
         try:
-            self._session = self._thread.do(Session, depth, library)
+            self._session = self._thread.do(Session, depth, library, types)
         except BaseException:
             self._thread.end()
             raise

@@ -384,8 +384,11 @@ class Sessions(Answers, Interrupted, unittest.TestCase):
         self.assertEqual(ask_all(self.session, ALICE, address="10.1.2.300").erring, {"policy0": "FailedExtensionFunctionExecution"})
         with cedar.Session(types=True) as typed:
             self.assertEqual(typed.load(policy), ["policy0"])
-        with cedar.Session(types=False) as bare:
-            self.refused("Text", bare.load, policy)
+        for opened in (cedar.Session, cedar.SessionThread):
+            with opened(types=False) as bare:
+                self.refused("Text", bare.load, policy)
+            with opened() as typed:
+                self.assertEqual(typed.load(policy), ["policy0"])
 
     def test_a_library_without_types(self):
         bare = mock.Mock(wraps=self.session._cedar, spec=["cedar_new", "cedar_command", "cedar_answer", "cedar_close", "cedar_free"])

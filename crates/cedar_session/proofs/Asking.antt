@@ -1,5 +1,5 @@
 -- Steps of a session that asks.
-use Rattle.std.proofs.Common.{◌≡◌, inr, ◌<◌, ◌≤◌, List, [], false, true, Some, Err, refl, sym, ◌∙◌, ap, subst, arith}
+use Rattle.std.proofs.Common.{◌≡◌, inl, inr, ◌<◌, ◌≤◌, List, [], false, true, Some, Err, refl, sym, ◌∙◌, ap, subst, arith}
 use Rattle.std.specs.FinMap as finite
 use Rattle.cedar_language.specs.Uid as uid
 use Rattle.cedar_language.specs.Tree.{Tree}
@@ -30,13 +30,14 @@ use Rattle.cedar_session.specs.TextReading.{ReadsBody}
 use Rattle.cedar_telling.specs.Bodies.{AsksBody}
 use Rattle.cedar_asking.specs.Responses.{AnswersAsked}
 use Rattle.cedar_telling.specs.Tells.{told_in}
+use Rattle.cedar_session.specs.Asking.{AsksText}
 use Rattle.cedar_session.specs.Open.{question_in}
 use Rattle.cedar_session.proofs.Edits.{not_both}
 
 module _ (by : Setting) (old : World) (text : uid.Text) (once : BodiesAreOne by) where
   -- ---- a body that isn't read
 
-  pub unread_ask : (r : Refusal) → ReadsBody by text (Err r) → Step by old Ask text (Refused (refusal_of r)) old
+  unread_ask : (r : Refusal) → ReadsBody by text (Err r) → Step by old Ask text (Refused (refusal_of r)) old
   unread_ask Text h = ask_is_no_text by old text h
   unread_ask Depth h = ask_is_deep by old text h
   unread_ask NotRestricted h = ask_is_not_restricted by old text once h.0 h.1 h.2 h.3
@@ -53,7 +54,7 @@ module _ (by : Setting) (old : World) (text : uid.Text) (once : BodiesAreOne by)
     ask_first q asks commands.Depth late holds before = absurd holds
     ask_first q asks r late holds before = stands_first by old text ask_body (AskCases by old) (λ b x. x) once tree reads low restricted q asks r late holds before
 
-    pub unasked : (table : Table) (r : Refusal) → AsksBody by table by.depth tree (Err r) → Step by old Ask text (Refused (refusal_of r)) old
+    unasked : (table : Table) (r : Refusal) → AsksBody by table by.depth tree (Err r) → Step by old Ask text (Refused (refusal_of r)) old
     unasked table Shape h = ask_is_misshapen by old text once tree reads low restricted h
     unasked table Evaluation h = (ask_first h.0 h.1 commands.Evaluation (omega arith) h.2 before, refl)
       where
@@ -101,3 +102,8 @@ module _ (by : Setting) (old : World) (text : uid.Text) (once : BodiesAreOne by)
           (ap (λ o. record old { asked = Some (record { question = o; told = told_in told; last = answer_of kept }) }) states
           ∙ ap (λ t. record old { asked = Some (record { question = q; told = told_in t; last = answer_of kept }) }) none
           ∙ ap (λ a. record old { asked = Some (record { question = q; told = finite.empty; last = answer_of a }) }) same)
+
+  -- a text that asks nothing
+  pub unasked_text : (table : Table) (r : Refusal) → AsksText by table text (Err r) → Step by old Ask text (Refused (refusal_of r)) old
+  unasked_text table r (inl unread) = unread_ask r unread
+  unasked_text table r (inr (tree, is)) = unasked tree is.read is.low is.restricted table r is.asks

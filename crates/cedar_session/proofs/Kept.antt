@@ -44,7 +44,7 @@ use Rattle.cedar_replies.specs.Replies.{answer_of}
 use Rattle.cedar_replies.specs.declared.answer.Answer.{Answer}
 use Rattle.cedar_replies.specs.declared.refusal.Refusal.{Refusal}
 use Rattle.cedar_replies.specs.declared.refusal.Refusal.TheVariants as refusal
-use Rattle.cedar_restricted.specs.Views.{restricted_tree}
+use Rattle.cedar_session.specs.Asking.{body_tree}
 use Rattle.cedar_session.specs.Open.{KeepsAsked, KeepsOpen, question_in, nothing_given, bare}
 use Rattle.cedar_world.specs.OrdinaryReplies.{AnswersOrdinarily, AnswersToldOrdinarily}
 use Rattle.cedar_session.specs.Sessions.{asked_of}
@@ -127,10 +127,10 @@ module _ (by : Setting) (policies : Policies) (entities : Entities) where
   }
 
   -- what is kept of a question that was just asked
-  pub begins : (asked : Asked) (q : Question) (answer : Answer) → ask_body (restricted_tree asked.body) ≡ Some q → (text : uid.Text) × IsBody by text (restricted_tree asked.body) → asked.told.entries ≡ [] → asked.answer ≡ answer
+  pub begins : (asked : Asked) (q : Question) (answer : Answer) → ask_body (body_tree asked.body) ≡ Some q → (text : uid.Text) × IsBody by text (body_tree asked.body) → asked.told.entries ≡ [] → asked.answer ≡ answer
       → KeepsQuestion by held q asked.first [] (answer_of answer) → AnswersToldOrdinarily by held (answer_of answer) → KeepsAsked by policies entities asked
   begins asked q answer asks read none same keeps ordinary =
-      let is : question_in (restricted_tree asked.body) ≡ q = ap (λ o. unwrap_or o nothing_given) asks in
+      let is : question_in (body_tree asked.body) ≡ q = ap (λ o. unwrap_or o nothing_given) asks in
       record {
         states = asks ∙ ap Some (sym is);
         read = read;
@@ -149,11 +149,11 @@ module _ (by : Setting) (policies : Policies) (entities : Entities) where
     was_open = ap (option_map asked_of) is
 
     -- each body that is kept states a question
-    pub states : ask_body (restricted_tree asked.body) ≡ Some (question_in (restricted_tree asked.body))
+    pub states : ask_body (body_tree asked.body) ≡ Some (question_in (body_tree asked.body))
     states = is_stated _ (λ none. ∥∥₁_elim kept no_two (λ k. not_none _ (sym none ∙ k.states)))
 
     abbrev question : Question
-    question = question_in (restricted_tree asked.body)
+    question = question_in (body_tree asked.body)
 
     -- what an answer once these values are told is said to be
     abbrev Says : Table → Map → Store → Result Answer Refusal → Type 0
@@ -194,7 +194,7 @@ module _ (by : Setting) (policies : Policies) (entities : Entities) where
       ordinary_then : AnswersErrOrdinarily → (answer : Answer) → Says table all s (Ok answer) → KeepsAsked by policies entities asked → AnswersToldOrdinarily by held (answer_of answer)
       ordinary_then law answer says k =
           let joins = (answered (Ok answer) says k).joins in
-          let asks : IsAskedBy by question = (k.read.0, restricted_tree asked.body, k.read.1, k.states) in
+          let asks : IsAskedBy by question = (k.read.0, body_tree asked.body, k.read.1, k.states) in
           record {
             finds = λ commands replies reached.
                 law.later by commands replies held reached question asks (told_in all.entries) (answer_of asked.answer) joins.0 (answer_of answer) joins.1 joins.2 (k.ordinary.finds commands replies reached);

@@ -3,6 +3,8 @@ mod Bodies
 mod Callers
 mod Readings
 mod Unknowns
+pub mod Simple
+pub mod Given
 pub mod Asking
 pub mod Telling
 pub mod Untyped

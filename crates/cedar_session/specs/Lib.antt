@@ -4,6 +4,7 @@ pub mod TextReading
 pub mod PolicyReading
 pub mod Calling
 pub mod Commands
+pub mod Asking
 pub mod Open
 pub mod Programs
 pub mod Reading

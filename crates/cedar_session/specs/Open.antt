@@ -9,8 +9,8 @@ use Rattle.cedar_world.specs.Setting.{Setting, IsBody}
 use Rattle.cedar_world.specs.World.{World, Policies, Entities}
 use Rattle.cedar_asking.specs.Keeping.{KeepsQuestion}
 use Rattle.cedar_replies.specs.Replies.{answer_of}
-use Rattle.cedar_restricted.specs.Views.{restricted_tree}
 use Rattle.cedar_world.specs.OrdinaryReplies.{AnswersToldOrdinarily}
+use Rattle.cedar_session.specs.Asking.{body_tree}
 use Rattle.cedar_session.specs.declared.asked.Asked.{Asked}
 
 -- a question of which nothing is given
@@ -28,9 +28,9 @@ bare policies entities = record { policies = policies; entities = entities; aske
 -- The body was read from a text, and states a question, whose first response, told values and last answer are those for these
 -- policies and entities; and the last answer names no errors but those that it may once more is told.
 pub record KeepsAsked (by : Setting) (policies : Policies) (entities : Entities) (asked : Asked) : Type 0 where
-  pub states : ask_body (restricted_tree asked.body) ≡ Some (question_in (restricted_tree asked.body))
-  pub read : (text : Text) × IsBody by text (restricted_tree asked.body)
-  pub keeps : KeepsQuestion by (bare policies entities) (question_in (restricted_tree asked.body)) asked.first asked.told.entries (answer_of asked.answer)
+  pub states : ask_body (body_tree asked.body) ≡ Some (question_in (body_tree asked.body))
+  pub read : (text : Text) × IsBody by text (body_tree asked.body)
+  pub keeps : KeepsQuestion by (bare policies entities) (question_in (body_tree asked.body)) asked.first asked.told.entries (answer_of asked.answer)
   pub ordinary : AnswersToldOrdinarily by (bare policies entities) (answer_of asked.answer)
 
 abbrev pub KeepsOpen : Setting → Policies → Entities → Option Asked → Type 0

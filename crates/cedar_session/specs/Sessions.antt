@@ -3,7 +3,6 @@ use Rattle.std.specs.Prelude.{Option, Result, Ok, Err, Vec}
 use Rattle.std.specs.declared.alloc.Global.{Global}
 use Rattle.cedar_policy_parts.specs.declared.policy_id.PolicyID.{PolicyID}
 use Rattle.std.specs.Option.{option_map}
-use Rattle.cedar_restricted.specs.Views.{restricted_tree}
 use Rattle.cedar_world.specs.World as world
 use Rattle.cedar_world.specs.World.{World}
 use Rattle.cedar_extensions.specs.declared.objects.ExtensionFunctionObject.{Ghosts}
@@ -16,6 +15,7 @@ use Rattle.cedar_replies.specs.Replies.{answer_of}
 use Rattle.cedar_replies.specs.Refusals.{refusal_of}
 use Rattle.cedar_telling.specs.Tells.{told_in}
 use Rattle.cedar_evaluator.specs.declared.partial_response.PartialResponse.{PartialResponse}
+use Rattle.cedar_session.specs.Asking.{body_tree}
 use Rattle.cedar_session.specs.Open.{question_in}
 use Rattle.cedar_session.specs.declared.asked.Asked.{Asked}
 use Rattle.cedar_session.specs.declared.session.Session.{Session}
@@ -25,7 +25,7 @@ abbrev pub setting_of : {F : Type 0} {functions : Ghosts F} → Session F functi
 setting_of {functions = functions} session = setting_with functions.answers session.extensions.now session.depth
 
 abbrev pub asked_of : Asked → world.Asked
-asked_of asked = record { question = question_in (restricted_tree asked.body); told = told_in asked.told.entries; last = answer_of asked.answer }
+asked_of asked = record { question = question_in (body_tree asked.body); told = told_in asked.told.entries; last = answer_of asked.answer }
 
 -- of these policies, templates and links, these entities, and this open question
 abbrev pub world_holding : world.Policies → world.Entities → Option Asked → World

@@ -1,11 +1,13 @@
 // Names that are kept from one text to the next: those that texts may call, and those of types.
 ghost use Rattle.std.specs.Prelude.{◌≡◌, None, Some, IsSome, IfOk, IfSome, OnOk};
 ghost use Rattle.cedar_data.specs.Data.{IsDataText};
+ghost use Rattle.cedar_data.specs.Questions.{IsQuestionText};
 ghost use Rattle.cedar_grammar.specs.Functions.{Functions, body_names};
+ghost use Rattle.cedar_grammar.specs.Names.{Names};
 ghost use Rattle.cedar_parser.specs.Settings.{functions_of};
 ghost use Rattle.cedar_session.specs.Calling.{AreNamesOf};
 
-use cedar_data::{TypeNames, read_data};
+use cedar_data::{GivenQuestion, TypeNames, read_data, read_question};
 use cedar_extensions::extensions::Extensions;
 use cedar_extensions::objects::ExtensionFunctionObject;
 use cedar_faults::ExtStyles;
@@ -102,6 +104,21 @@ impl CalledNames {
         let types = self.types.get_or_insert(TypeNames::new(alloc));
         let styles = self.bodies.as_ref().unwrap();
         read_data(alloc, text, styles, types, depth)
+    }
+
+    /// The question that a text states, where all of it is given; `None` says nothing of the text (`read_question`). The
+    /// names of its types are shared with those of bodies before. Refused for memory alone.
+    pub(crate) fn read_given(
+        &mut self,
+        alloc: Global,
+        text: &str,
+        depth: u32,
+    ) -> Result<Option<GivenQuestion>, AllocError>
+        ensures called { (functions : Functions) → AreNamesOf functions self.old → AreNamesOf functions self.new }
+        ensures question { IfOk result (λ found. IfSome found (λ question. (names : Names) → IsQuestionText names depth text.now question)) }
+    {
+        let types = self.types.get_or_insert(TypeNames::new(alloc));
+        read_question(alloc, text, types, depth)
     }
 
     /// The names that policies may call, which are made.

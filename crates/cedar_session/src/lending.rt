@@ -10,12 +10,12 @@ ghost use Rattle.cedar_session.specs.Lending.{is_untold, IsResponse};
 ghost use Rattle.cedar_session.specs.Sessions.{setting_of, world_of, response_of};
 ghost use Rattle.std.specs.Option.{option_map};
 
+use crate::open_question::untold_of;
 use crate::session::Session;
 use cedar_entities::store::Entities;
 use cedar_evaluator::partial_response::PartialResponse;
 use cedar_extensions::objects::ExtensionFunctionObject;
 use cedar_policy_set::sets::PolicySet;
-use cedar_telling::untold_names;
 use std::alloc::AllocError;
 
 impl<F: ExtensionFunctionObject> Session<'_, '_, F> {
@@ -60,7 +60,7 @@ impl<F: ExtensionFunctionObject> Session<'_, '_, F> {
     {
         match &self.asked {
             None => Ok(Vec::new(self.allocator())),
-            Some(asked) => untold_names(self.allocator(), &asked.body, &asked.told),
+            Some(asked) => untold_of(self.allocator(), asked),
         }
     }
 }

@@ -16,7 +16,9 @@ use crate::called_names::CalledNames;
 use crate::command::Command;
 use crate::held::Held;
 use crate::naming::read_id;
+use crate::open_question::told_besides;
 use crate::policy_reading::read_policies;
+use crate::questions::asked_question;
 use crate::reading::read_body;
 use cedar_asking::{answer, answer_told};
 use cedar_extensions::extensions::Extensions;
@@ -24,7 +26,6 @@ use cedar_extensions::objects::{ExtensionFunctionObject, NoFunction};
 use cedar_held::{HeldEntities, HeldPolicies, link_body};
 use cedar_policy_parts::PolicyID;
 use cedar_replies::{Answer, Refusal, Reply};
-use cedar_telling::{request_of, told_by};
 use std::alloc::Global;
 use std::collections::BTreeMap;
 
@@ -371,8 +372,13 @@ impl<'e, 'f, F: ExtensionFunctionObject> Session<'e, 'f, F> {
         cedar_world::telling::answers_err_ordinarily();
         self.extensions.names_are_defined();
         let alloc = self.allocator;
-        let body = read_body(alloc, text, &mut self.names, self.extensions, self.depth)?;
-        let request = request_of(alloc, &body, self.extensions, self.depth)?;
+        let (body, request) = asked_question(
+            alloc,
+            text,
+            &mut self.names,
+            self.extensions,
+            self.depth,
+        )?;
         let policies = self.policies.set();
         let entities = self.entities.store();
         let (first, answer) = answer(
@@ -429,14 +435,7 @@ impl<'e, 'f, F: ExtensionFunctionObject> Session<'e, 'f, F> {
         };
         let alloc = self.allocator;
         let body = read_body(alloc, text, &mut self.names, self.extensions, self.depth)?;
-        let told = told_by(
-            alloc,
-            &body,
-            &asked.body,
-            &asked.told,
-            self.extensions,
-            self.depth,
-        )?;
+        let told = told_besides(alloc, &body, asked, self.extensions, self.depth)?;
         let answer = answer_told(
             alloc,
             &asked.first,

@@ -1,0 +1,93 @@
+#!/usr/bin/env python3
+"""Counts the instructions of a question over so many policies, body and answer line included.
+
+    python3 bench/measure_asks.py --program crates/cedar_main/out/cedar_main [CASE..]
+
+A figure is what 120 questions take less what 60 take, by valgrind (`--tool=callgrind`), a question each: counts don't depend on what
+else the machine does. Needs valgrind.
+"""
+import argparse
+import re
+import subprocess
+
+from measure import frame
+
+COUNTED = 60
+ASK = '{principal: %s, action: Action::"%s", resource: %s, context: %s}'
+
+
+def put(*entities):
+    return frame('put', '[' + ', '.join(entities) + ']')
+
+
+def grants(count):
+    """A grant for each group, on one photo each; a user in each group."""
+    text = ''.join(f'permit(principal in Group::"g{n}", action == Action::"view", resource == Photo::"p{n}");\n' for n in range(count))
+    users = put(*(f'{{uid: User::"u{n}", parents: [Group::"g{n}"]}}' for n in range(count)))
+    middle = count // 2
+    return frame('load', text) + users, ASK % (f'User::"u{middle}"', 'view', f'Photo::"p{middle}"', '{hour: 9}')
+
+
+def roles(count):
+    """Policies of ten roles and a hundred actions; the principal is in one of them, through ten levels."""
+    text = ''.join(f'permit(principal in Role::"r{n % 10}", action == Action::"a{n % 100}", resource in Folder::"f{n // 10}");\n' for n in range(count))
+    levels = [f'{{uid: Group::"g{n}", parents: [Group::"g{n + 1}"]}}' for n in range(9)]
+    held = put('{uid: User::"u", parents: [Group::"g0"]}', *levels, '{uid: Group::"g9", parents: [Role::"r0"]}', '{uid: Data::"d", parents: [Folder::"f0"]}')
+    return frame('load', text) + held, ASK % ('User::"u"', 'a0', 'Data::"d"', '{}')
+
+
+def clauses(count):
+    """Clauses that read the principal, the resource and the context; half of the policies are satisfied."""
+    text = ''.join(f'permit(principal, action, resource) when {{ principal.level > {n} && resource.owner == principal && context.ip == "x" }};\n' for n in range(count))
+    held = put(f'{{uid: User::"u", attrs: {{level: {count // 2}}}}}', '{uid: Data::"d", attrs: {owner: User::"u"}}')
+    return frame('load', text) + held, ASK % ('User::"u"', 'read', 'Data::"d"', '{ip: "x"}')
+
+
+def arithmetic(count):
+    text = ''.join(f'permit(principal, action, resource) when {{ context.a + context.b * 2 - {n} == 0 }};\n' for n in range(count))
+    return frame('load', text), ASK % ('User::"u"', 'read', 'Data::"d"', '{a: 1, b: -2}')
+
+
+def written_sets(count):
+    text = ''.join(f'permit(principal, action, resource) when {{ ["a{n}", "b", "c"].contains(context.s) }};\n' for n in range(count))
+    return frame('load', text), ASK % ('User::"u"', 'read', 'Data::"d"', '{s: "d"}')
+
+
+def contexts(count):
+    """A context of so many keys."""
+    keys = ', '.join(f'k{n}: {n}' for n in range(count))
+    return frame('load', 'permit(principal, action, resource);'), ASK % ('User::"u"', 'read', 'Data::"d"', '{' + keys + '}')
+
+
+CASES = {
+    'grants': (grants, (10, 100, 1000, 10_000)),
+    'roles': (roles, (10, 100, 1000)),
+    'clauses': (clauses, (10, 100)),
+    'arithmetic': (arithmetic, (50,)),
+    'written_sets': (written_sets, (50,)),
+    'contexts': (contexts, (10, 100, 1000)),
+}
+
+
+def instructions(program, data):
+    counter = ['valgrind', '--tool=callgrind', '--callgrind-out-file=/dev/null', program]
+    done = subprocess.run(counter, input=data, capture_output=True, check=True)
+    assert b'refused' not in done.stdout, 'a command of the case is refused'
+    return int(re.search(rb'Collected : (\d+)', done.stderr)[1])
+
+
+def main():
+    words = argparse.ArgumentParser(description=__doc__, formatter_class=argparse.RawDescriptionHelpFormatter)
+    words.add_argument('--program', required=True)
+    words.add_argument('cases', nargs='*', choices=[[], *CASES])
+    given = words.parse_args()
+    for name in given.cases or CASES:
+        made, sizes = CASES[name]
+        for size in sizes:
+            held, question = made(size)
+            few, many = (instructions(given.program, held + frame('ask', question) * count) for count in (COUNTED, 2 * COUNTED))
+            print(f'{name}, {size}: {(many - few) / COUNTED:,.0f}', flush=True)
+
+
+if __name__ == '__main__':
+    main()
