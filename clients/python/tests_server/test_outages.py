@@ -64,7 +64,7 @@ class Outages(WithLog):
         caller.post("/v1/policies", FORBID)
         self.assertEqual(caller.ask().said["decision"], "deny")
         Shared.server.restore()
-        stopped = service.wait("/readyz", 503)
+        stopped = service.wait("/readyz", 503, 20)
         self.assertEqual(stopped.fault, (503, "NotReady", ""))
         for reply in (caller.ask(), caller.ask(at="/v1/ask?age=0"), caller.post("/v1/policies", ANY)):
             self.assertEqual(reply.fault, (503, "Stopped", ""))
@@ -80,7 +80,7 @@ class Outages(WithLog):
             it.execute("DELETE FROM cedar_edits WHERE log = %s", [self.name])
         self.log.create()
         self.log.append("load", FORBID.encode(), "other")
-        self.assertEqual(service.wait("/readyz", 503).fault, (503, "NotReady", ""))
+        self.assertEqual(service.wait("/readyz", 503, 20).fault, (503, "NotReady", ""))
         self.assertEqual(caller.ask().fault, (503, "Stopped", ""))
 
     def test_the_database_is_full(self):
