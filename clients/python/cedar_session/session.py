@@ -13,7 +13,7 @@ from .errors import BadValue, Busy, CedarError, NoCommand, NoLibrary, NoMemory, 
 
 DEPTH_MAX = 1024
 # The calls are those of the shared objects whose version begins so.
-_VERSION = "0.1."
+_VERSION = "0.2."
 _DONE, _NO_ROOM = 0, 5
 _ERRORS = {4: NoMemory, 6: NotOpen, 8: NoCommand, 9: TooLong, 10: Busy, 11: OtherThread, 12: BadValue}
 _OWN = os.path.join(os.path.dirname(os.path.abspath(__file__)), "libcedar.so")

@@ -14,7 +14,7 @@ pub const DEPTH: u32 = 256;
 pub const DEPTH_MAX: u32 = 1024;
 
 /// The calls are those of the libraries whose version begins so.
-const VERSION: &str = "0.1.";
+const VERSION: &str = "0.2.";
 
 /// What the library keeps.
 #[repr(C)]

@@ -188,7 +188,7 @@ fn refusals() -> Result<(), Error> {
 
 #[test]
 fn version() {
-    assert!(library_version().starts_with("0.1."));
+    assert!(library_version().starts_with("0.2."));
 }
 
 #[test]

@@ -11,7 +11,7 @@ extern "C" {
 
 /* The version of this header; cedar_version() is that of the library. While the first number is 0, those with the same
    second number have the same calls. */
-#define CEDAR_VERSION "0.1.0"
+#define CEDAR_VERSION "0.2.0"
 #define CEDAR_VERSION_MAJOR 0
 #define CEDAR_VERSION_MINOR 1
 

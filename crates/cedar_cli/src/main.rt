@@ -59,7 +59,7 @@ exit status of session
   4  there wasn't enough memory to begin
 Where the words behind the name are none of these it is 2."#;
 
-const VERSION: &str = "cedar_cli 0.1.0";
+const VERSION: &str = "cedar_cli 0.2.0";
 
 /// How a run went. Of several things the one with the greatest number is told.
 const FINE: u8 = 0;
