@@ -1,11 +1,13 @@
 """The processes of a service: a supervisor that begins so many, and anew what ends or falls silent, each with a session of its own."""
 
 import asyncio
+import ctypes
 import gc
 import json
 import logging
 import os
 import resource
+import signal
 from dataclasses import dataclass, field
 from typing import Any, List, Optional
 
@@ -27,6 +29,8 @@ _LOGGER = logging.getLogger("gunicorn.error")
 _ROWS = 4
 # So long a connection without a request is kept where the process ends.
 _GRACE = 1.0
+# (Linux's PR_SET_PDEATHSIG)
+_ON_END_OF_PARENT = 1
 _NOTHING: List[folder.Edit] = []
 
 
@@ -159,6 +163,7 @@ class Processes(BaseApplication):  # type: ignore[misc]
 
     def _after(self, _: Any, worker: Any) -> None:
         self._worker = worker
+        _end_with_supervisor(worker.ppid)
 
     def _ended(self, _: Any, worker: Any) -> None:
         self._metrics.leave(worker.row)
@@ -171,6 +176,15 @@ class Processes(BaseApplication):  # type: ignore[misc]
             self._edits = folder.read(self._settings.folder)
         except folder.NoFolder as why:
             _LOGGER.error("what was read before stays: %s", why)
+
+
+def _end_with_supervisor(supervisor: int) -> None:
+    """Has the system end this process where the supervisor ends, however that is: nobody would look after it then."""
+    system = ctypes.CDLL(None)
+    if hasattr(system, "prctl"):
+        system.prctl(_ON_END_OF_PARENT, signal.SIGTERM)
+    if os.getppid() != supervisor:
+        os.kill(os.getpid(), signal.SIGTERM)
 
 
 def serve(settings: Settings) -> None:

@@ -338,6 +338,17 @@ class Processes(unittest.TestCase):
         self.service.wait()
         self.assertEqual(self.decision(), "deny")
 
+    def test_all_end_where_the_supervisor_is_killed(self):
+        until = time.monotonic() + 30
+        while len(self.service.workers()) < 2 and time.monotonic() < until:
+            time.sleep(0.05)
+        before = self.service.workers()
+        self.service.process.kill()
+        self.service.process.wait()
+        while any(os.path.exists(f"/proc/{pid}") for pid in before) and time.monotonic() < until:
+            time.sleep(0.05)
+        self.assertEqual((len(before), [pid for pid in before if os.path.exists(f"/proc/{pid}")]), (2, []))
+
     def test_a_folder_that_is_read_again(self):
         self.service.write("more.cedar", 'permit(principal == User::"bob", action, resource);')
         for pid in self.service.workers():
