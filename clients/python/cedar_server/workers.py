@@ -182,9 +182,9 @@ def _end_with_supervisor(supervisor: int) -> None:
     """Has the system end this process where the supervisor ends, however that is: nobody would look after it then."""
     system = ctypes.CDLL(None)
     if hasattr(system, "prctl"):
-        system.prctl(_ON_END_OF_PARENT, signal.SIGTERM)
+        system.prctl(_ON_END_OF_PARENT, signal.SIGKILL)
     if os.getppid() != supervisor:
-        os.kill(os.getpid(), signal.SIGTERM)
+        os.kill(os.getpid(), signal.SIGKILL)
 
 
 def serve(settings: Settings) -> None:
