@@ -42,7 +42,7 @@ frontend calls
     bind 127.0.0.1:{port}
     default_backend copies
 backend copies
-    balance leastconn
+    balance roundrobin
     option httpchk GET /readyz
 {servers}
 """
