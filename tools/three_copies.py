@@ -42,7 +42,7 @@ frontend calls
     bind 127.0.0.1:{port}
     default_backend copies
 backend copies
-    balance leastconn
+    balance roundrobin
     option httpchk GET /readyz
 {servers}
 """
@@ -99,9 +99,11 @@ class Room:
             self.run(f"copy-{port}", service(*words, "--decisions", os.path.join(self.path, "decisions")))
         servers = "\n".join(f"    server copy-{it} 127.0.0.1:{it} check inter 500ms fall 1 rise 1" for it in ports)
         settings = self.write("haproxy.cfg", BALANCER.format(port=self.port, servers=servers))
-        self.run("haproxy", ["haproxy", "-db", "-f", settings])
-        for port in (*ports, self.port):
+        for port in ports:
             self.wait(port)
+        # (a copy that isn't ready yet would get no question for a while)
+        self.run("haproxy", ["haproxy", "-db", "-f", settings])
+        self.wait(self.port)
 
     def wait(self, port, seconds=60):
         until = time.monotonic() + seconds
