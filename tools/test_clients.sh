@@ -126,7 +126,7 @@ typed_sessions() {
     local names
     names=$(find crates/cedar_cli/sessions -name '*.stdin' -printf '%f\n' | sed 's/\.stdin$//')
     # shellcheck disable=SC2086
-    [ -n "$names" ] && python3 tools/cases.py --cli "$room/frames" $names
+    [ -n "$names" ] && limited python3 tools/cases.py --cli "$room/frames" $names
 }
 
 misuse() {
@@ -226,7 +226,7 @@ if has cc 'the examples in C, and all that needs the shared object'; then
     try 'threads with the stacks of cedar.h hold the deepest texts' stacks
     if has python3 'the sessions by a handle, and the client in Python'; then
         try 'sessions by a handle' limited python3 tools/cases.py --program "$room/frames"
-        try "sessions by a handle that knows Cedar's extension types" limited typed_sessions
+        try "sessions by a handle that knows Cedar's extension types" typed_sessions
         try 'sessions by a handle, with requests for memory refused' limited python3 tools/refuse_growths.py --program "$room/frames" --seconds "${SECONDS_OF_REFUSING:-30}"
         try 'values in Python are read back' python_tests test_values
         try 'what copies hold' python_tests test_held

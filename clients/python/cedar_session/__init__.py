@@ -10,7 +10,7 @@
 
 Questions and entities are given as values, policies as Cedar text, ids as Python's strings. Every error is a CedarError."""
 
-from .commands import BODY_LIMIT, DEPTH, LANGUAGE, Answer, Commands, Decision
+from .commands import BODY_LIMIT, DEPTH, LANGUAGE, WITHOUT_TYPES, Answer, Commands, Decision
 from .errors import (
     BadValue,
     Busy,
@@ -37,6 +37,7 @@ __all__ = [
     "DEPTH_MAX",
     "LANGUAGE",
     "UNKNOWN",
+    "WITHOUT_TYPES",
     "Answer",
     "BadValue",
     "Busy",

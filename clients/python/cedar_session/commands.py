@@ -13,8 +13,10 @@ from .values import Context, Entity, Part, Value
 
 BODY_LIMIT = 1_048_576
 DEPTH = 256
-# The texts that a session takes: another number where a text is accepted that wasn't, or no longer is.
-LANGUAGE = "1"
+# The texts that a session takes: another number where a text is accepted that wasn't, or no longer is. Without Cedar's types their
+# functions are none.
+LANGUAGE = "2"
+WITHOUT_TYPES = "2 without types"
 EDITS = ("load", "link", "unlink", "remove-static", "remove-template", "add", "put", "remove")
 QUESTIONS = ("ask", "tell")
 

@@ -8,7 +8,8 @@
     copy.position                                        # after so many edits stands what is answered
 
 As a program, `python3 -m cedar_session.copies DATABASE NAME` is one copy: it reads frames, as `cedar_session` does, and writes a line for
-each, with the log's position before it. `--create` creates the log, `--keep` keeps a snapshot, from which new copies begin."""
+each, with the log's position before it. `--create` creates the log, `--keep` keeps a snapshot, from which new copies begin. All copies
+of a log have Cedar's types, or none has, by `--without-types`: `log.create(language=WITHOUT_TYPES)` is for sessions that haven't."""
 
 import argparse
 import os
@@ -18,7 +19,7 @@ from collections import OrderedDict
 from time import monotonic
 from typing import BinaryIO, Callable, Optional, TypeVar
 
-from .commands import EDITS, EMPTY, QUESTIONS, Answer, Commands
+from .commands import EDITS, EMPTY, LANGUAGE, QUESTIONS, WITHOUT_TYPES, Answer, Commands
 from .errors import CedarError, NotOpen, OtherThread
 from .held import Held, commands_of, read_frame
 from .log import Broken, Edit, KeyTaken, Log, LogError, Moved, NoLog, Place, Snapshot, rules_of
@@ -268,13 +269,14 @@ def main() -> int:
     asked.add_argument("name")
     asked.add_argument("--create", action="store_true")
     asked.add_argument("--keep", action="store_true")
+    asked.add_argument("--without-types", action="store_true")
     given = asked.parse_args()
     log = Log(given.database, given.name)
     try:
         if given.create:
-            log.create()
+            log.create(language=WITHOUT_TYPES if given.without_types else LANGUAGE)
             return 0
-        with Copy.begin(log, Session) as copy:
+        with Copy.begin(log, lambda: Session(types=not given.without_types)) as copy:
             if given.keep:
                 log.keep(copy.snapshot())
             else:

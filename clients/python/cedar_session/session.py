@@ -8,7 +8,7 @@ import warnings
 from queue import SimpleQueue
 from typing import Callable, Optional, Tuple, TypeVar, cast
 
-from .commands import DEPTH, Commands
+from .commands import DEPTH, WITHOUT_TYPES, Commands
 from .errors import BadValue, Busy, CedarError, NoCommand, NoLibrary, NoMemory, NotOpen, OtherThread, TooLong
 
 DEPTH_MAX = 1024
@@ -85,7 +85,9 @@ class Session(Commands):
         has_types = hasattr(self._cedar, "cedar_new_standard")
         if types and not has_types:
             raise NoLibrary("the shared object has no session with Cedar's extension types")
-        opens = self._cedar.cedar_new if types is False or not has_types else self._cedar.cedar_new_standard
+        opens = self._cedar.cedar_new_standard
+        if types is False or not has_types:
+            opens, self.language = self._cedar.cedar_new, WITHOUT_TYPES
         self._want(opens(ctypes.byref(self._handle), depth))
 
     def last_line(self) -> str:
@@ -194,6 +196,7 @@ class SessionThread(Commands):
             raise BadValue(f"no thread has a stack of {stack} bytes") from why
         try:
             self._session = self._thread.do(Session, depth, library, types)
+            self.language = self._session.language
         except BaseException:
             self._thread.end()
             raise

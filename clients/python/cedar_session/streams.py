@@ -7,13 +7,15 @@ import subprocess
 from time import monotonic
 from typing import Optional, Tuple
 
-from .commands import Commands
+from .commands import WITHOUT_TYPES, Commands
 from .errors import Ended, NotOpen, OtherThread, TimedOut
 
 
 class Connection(Commands):
     """A session of the program behind a connection. A line that takes longer than so many seconds closes it, and so does whatever
     comes between a command and its line: no later question gets that line."""
+
+    language = WITHOUT_TYPES
 
     def __init__(self, address: Tuple[str, int], seconds: float = 30):
         try:

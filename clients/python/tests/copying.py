@@ -59,19 +59,24 @@ def answers(session):
     return [line for it in QUESTIONS for line in (session.line("ask", it), session.line("tell", "{context: {hour: 19, strict: true}}"))]
 
 
+def bare():
+    """A session without Cedar's types, as that of the program."""
+    return cedar.Session(types=False)
+
+
 class WithLog(unittest.TestCase):
-    """A log for each test, under the test's name."""
+    """A log for each test, under the test's name, whose copies have no types, since some are by the program."""
 
     def setUp(self):
         self.log = self.opened_log()
-        self.log.create()
+        self.log.create(language=cedar.WITHOUT_TYPES)
 
     def opened_log(self, name=None, **more):
         log = Log(database(**more), name or self.id())
         self.addCleanup(log.close)
         return log
 
-    def copy(self, opened=cedar.Session, **more):
+    def copy(self, opened=bare, **more):
         copy = Copy.begin(self.opened_log(**more), opened)
         self.addCleanup(copy.close)
         return copy

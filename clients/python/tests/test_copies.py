@@ -16,7 +16,7 @@ from cedar_session import Decision, Entity, copies
 from cedar_session.copies import Copy, Log, Place
 from cedar_session.held import frame_of
 
-from tests.copying import ANY, EDITS, FORBID, MALLORY, PERMIT, REFUSED, WithLog, answers, database, decision, setUpModule  # noqa: F401
+from tests.copying import ANY, EDITS, FORBID, MALLORY, PERMIT, REFUSED, WithLog, answers, bare, database, decision, setUpModule  # noqa: F401
 from tests.test_held import many
 
 
@@ -25,7 +25,7 @@ class Program(cedar.Connection):
 
     def __init__(self, database, name):
         here, there = socket.socketpair()
-        words = [sys.executable, "-B", "-m", "cedar_session.copies", database, name]
+        words = [sys.executable, "-B", "-m", "cedar_session.copies", "--without-types", database, name]
         with there:
             self.process, self.position = subprocess.Popen(words, stdin=there.fileno(), stdout=there.fileno()), 0
         self._begin(here, 30)
@@ -110,7 +110,7 @@ class Copies(WithLog):
             self.assertEqual(answers(copy), answers(alone))
 
     def test_refused_edits_leave_each_as_it_was(self):
-        followed = [self.copy(), self.copy(cedar.Child), self.copy(cedar.SessionThread)]
+        followed = [self.copy(), self.copy(cedar.Child), self.copy(lambda: cedar.SessionThread(types=False))]
         self.fill(EDITS[:6])
         for copy in followed:
             copy.follow()
@@ -136,7 +136,7 @@ class Copies(WithLog):
         self.assertEqual(again.position, len(EDITS) + 1)
 
     def test_a_copy_without_memory_goes_on_later(self):
-        other, short = self.copy(), self.copy(Forgetful)
+        other, short = self.copy(), self.copy(lambda: Forgetful(types=False))
         self.fill()
         with self.assertRaises(MemoryError) as caught:
             short.follow()
@@ -367,7 +367,7 @@ class Keys(WithLog):
             self.assertEqual((caught.exception.word, self.log.end()), ("Text", 1))
 
     def test_an_edit_in_which_a_copy_ends_is_done_once(self):
-        for opened, kind in ((Dying, copies.Stopped), (Forgetful, copies.Waits)):
+        for opened, kind in ((Dying, copies.Stopped), (lambda: Forgetful(types=False), copies.Waits)):
             with self.subTest(kind=kind):
                 ending, other = self.copy(opened), self.copy()
                 before = other.position
@@ -408,7 +408,7 @@ class Keys(WithLog):
         moved = []
 
         def administrate():
-            copy = Copy.begin(Log(database(), self.id()), cedar.Session)
+            copy = Copy.begin(Log(database(), self.id()), bare)
             left = 30
             while left:
                 try:

@@ -12,7 +12,7 @@ from cedar_session import Decision, copies
 from cedar_session.copies import Copy, Log, Place, Snapshot
 from cedar_session.held import frame_of
 
-from tests.copying import ANY, EDITS, FORBID, WithLog, answers, database, decision, setUpModule  # noqa: F401
+from tests.copying import ANY, EDITS, FORBID, WithLog, answers, bare, database, decision, setUpModule  # noqa: F401
 
 
 class Faults(WithLog):
@@ -28,10 +28,15 @@ class Faults(WithLog):
 
         with self.assertRaises(copies.Differs):
             self.copy(Other)
+        for typed in (cedar.Session, cedar.SessionThread):
+            with self.assertRaises(copies.Differs):
+                self.copy(typed)
         low = self.opened_log("low")
         low.create(depth=6)
         with self.assertRaises(copies.Differs):
             self.copy(cedar.Child, name="low")
+        with self.assertRaises(copies.Differs):
+            self.copy(lambda: cedar.Session(depth=6, types=False), name="low")
         self.assertEqual(self.copy(lambda: cedar.Session(depth=6), name="low").position, 0)
 
     def test_no_log(self):
@@ -49,7 +54,7 @@ class Faults(WithLog):
     def test_names_share_nothing(self):
         names = ("n", "n:snapshot", "n'", "n\\", "N", "n ", "é", "%s", "n" * 1_000)
         for name in names:
-            self.opened_log(name).create()
+            self.opened_log(name).create(language=cedar.WITHOUT_TYPES)
         for name in names:
             copy = self.copy(name=name)
             copy.load(f'permit(principal == User::"{len(name)}", action, resource);')
@@ -64,7 +69,7 @@ class Faults(WithLog):
         b.follow()
         self.sql("DELETE FROM cedar_edits WHERE log = %s", self.id())
         self.stops(a)
-        self.log.create()
+        self.log.create(language=cedar.WITHOUT_TYPES)
         c = self.copy()
         c.load(FORBID)
         c.load(ANY)
@@ -138,7 +143,7 @@ class Faults(WithLog):
         self.assertEqual(self.log.end(), 0)
 
     def test_a_first_row_of_another_log(self):
-        self.opened_log("other").create()
+        self.opened_log("other").create(language=cedar.WITHOUT_TYPES)
         self.sql("UPDATE cedar_edits SET body = (SELECT body FROM cedar_edits WHERE log = 'other'), key = 'k' WHERE log = %s", self.id())
         with self.assertRaises(copies.Broken):
             self.copy()
@@ -149,7 +154,7 @@ class Faults(WithLog):
             self.sql(f"CREATE ROLE {name} LOGIN")
         self.sql("GRANT SELECT ON cedar_edits, cedar_snapshots TO reader, writer")
         self.sql("GRANT INSERT ON cedar_edits TO writer")
-        reader, writer = (Copy.begin(self.opened_log(user=it), cedar.Session) for it in ("reader", "writer"))
+        reader, writer = (Copy.begin(self.opened_log(user=it), bare) for it in ("reader", "writer"))
         for copy in (reader, writer):
             self.addCleanup(copy.close)
         writer.load(ANY)
@@ -243,7 +248,7 @@ class Snapshots(WithLog):
             self.copy()
 
     def test_the_program_keeps_a_snapshot(self):
-        words = [sys.executable, "-B", "-m", "cedar_session.copies", database(), self.id()]
+        words = [sys.executable, "-B", "-m", "cedar_session.copies", "--without-types", database(), self.id()]
         self.assertEqual(subprocess.run([*words[:-1], "new", "--create"]).returncode, 0)
         self.fill()
         subprocess.run([*words, "--keep"], check=True)

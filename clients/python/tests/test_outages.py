@@ -10,7 +10,7 @@ import cedar_session as cedar
 from cedar_session import Decision, copies
 from cedar_session.copies import Copy, Log
 
-from tests.copying import ANY, BOTH, EDITS, FORBID, PERMIT, Shared, WithLog, answers, database, decision, setUpModule  # noqa: F401
+from tests.copying import ANY, BOTH, EDITS, FORBID, PERMIT, Shared, WithLog, answers, bare, database, decision, setUpModule  # noqa: F401
 
 
 class Proxy:
@@ -73,7 +73,7 @@ class WithProxy(WithLog):
 
     def through(self):
         log = Log(database(port=self.proxy.port), self.id())
-        copy = Copy.begin(log, cedar.Session)
+        copy = Copy.begin(log, bare)
         self.addCleanup(copy.close)
         return copy
 
@@ -231,7 +231,7 @@ class Many(WithLog):
         """Each answer is compared with that of a session of its own, which was given the edits up to the same position."""
         seed = time.time_ns()
         choose = random.Random(seed)
-        followed = [self.copy(), self.copy(cedar.Child), self.copy(cedar.SessionThread)]
+        followed = [self.copy(), self.copy(cedar.Child), self.copy(lambda: cedar.SessionThread(types=False))]
         shadows, done, edits = [cedar.Session() for _ in followed], [0, 0, 0], []
         for shadow in shadows:
             self.addCleanup(shadow.close)
