@@ -85,9 +85,10 @@ class Session(Commands):
         has_types = hasattr(self._cedar, "cedar_new_standard")
         if types and not has_types:
             raise NoLibrary("the shared object has no session with Cedar's extension types")
-        opens = self._cedar.cedar_new_standard
         if types is False or not has_types:
             opens, self.language = self._cedar.cedar_new, WITHOUT_TYPES
+        else:
+            opens = self._cedar.cedar_new_standard
         self._want(opens(ctypes.byref(self._handle), depth))
 
     def last_line(self) -> str:

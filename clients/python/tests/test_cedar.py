@@ -237,6 +237,7 @@ class Interrupted:
             try:
                 self.assertEqual(ask_all(session, MALLORY).decision, Decision.DENY)
             except cedar.NotOpen:
+                session.close()
                 session = self.opened()
                 session.load('permit(principal == User::"alice", action, resource);')
         session.close()
