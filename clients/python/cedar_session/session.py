@@ -146,7 +146,7 @@ class _Thread:
 
     def __init__(self, stack: int) -> None:
         self._wanted: "SimpleQueue[Optional[_Wanted]]" = SimpleQueue()
-        self._has_ended = False
+        self.has_ended = False
         thread = threading.Thread(target=_do_each, args=(self._wanted,), name="cedar", daemon=True)
         with _STACKS:
             before = threading.stack_size(stack)
@@ -157,7 +157,7 @@ class _Thread:
 
     def do(self, what: Callable[..., T], *given: object) -> T:
         """Does it there, and returns or raises what comes of it."""
-        if self._has_ended:
+        if self.has_ended:
             raise NotOpen("the session is closed")
         done: "SimpleQueue[_Done]" = SimpleQueue()
         self._wanted.put((what, given, done))
@@ -166,9 +166,11 @@ class _Thread:
             raise why
         return cast(T, made)
 
-    def end(self) -> None:
-        """Ends it behind what it has to do. Doesn't wait."""
-        self._has_ended = True
+    def end(self, last: Optional[Callable[[], object]] = None) -> None:
+        """Ends it behind what it has to do, and behind a last thing. Doesn't wait."""
+        self.has_ended = True
+        if last is not None:
+            self._wanted.put((last, (), SimpleQueue()))
         self._wanted.put(None)
 
 
@@ -216,16 +218,14 @@ class SessionThread(Commands):
 
     def _end(self) -> None:
         # (a forked process has no such thread, and nothing to give back)
-        if os.getpid() != self._process or self._thread._has_ended:
+        if os.getpid() != self._process or self._thread.has_ended:
             return
         self._thread.do(self._session._end)
         self._thread.end()
 
     def __del__(self) -> None:
         thread = getattr(self, "_thread", None)
-        if thread is None or thread._has_ended or os.getpid() != self._process:
+        if thread is None or thread.has_ended or os.getpid() != self._process:
             return
         session = getattr(self, "_session", None)
-        if session is not None:
-            thread._wanted.put((session._end, (), SimpleQueue()))
-        thread.end()
+        thread.end(None if session is None else session._end)
