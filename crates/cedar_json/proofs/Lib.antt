@@ -1,0 +1,9 @@
+pub mod Strings
+pub mod Tokens
+pub mod Names
+pub mod Literals
+pub mod Records
+pub mod ReadBack
+pub mod Keys
+pub mod EntityTexts
+pub mod QuestionTexts

@@ -1,0 +1,4 @@
+pub mod Class
+pub mod View
+pub mod Reads
+pub mod Places
