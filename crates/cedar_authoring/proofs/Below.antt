@@ -1,37 +1,17 @@
 -- Texts on one line, and lines that stand below another.
-use Rattle.std.proofs.Common.{◌≡◌, ◌∙◌, ◌≤◌, Bool, true, false, cond, eqb, [], ◌∷◌, ◌++◌, codes, length, get_or, refl, ap, sym, subst, append_assoc, arith, ◌*◌, All}
-use Rattle.std.proofs.lemmas.List.{append-nil, take_all}
+use Rattle.std.proofs.Common.{◌≡◌, ◌∙◌, cond, [], ◌∷◌, ◌++◌, codes, refl, ap, sym, subst, append_assoc, arith}
+use Rattle.std.proofs.lemmas.List.{append-nil}
 use Rattle.std.proofs.lemmas.List.Elements.{All-append, All-cons, All-nil}
-use Rattle.std.proofs.lemmas.List.Sums.{sum_by-append, sum_by-le, fails_before_first}
-use Rattle.std.proofs.lemmas.Grind.{common_steps, flat_map-append}
-use Rattle.std.specs.List.{flat_map, before_first, position_or_len}
+use Rattle.std.proofs.lemmas.List.Sums.{sum_by-append}
+use Rattle.std.proofs.lemmas.Grind.{flat_map-append}
+use Rattle.std.specs.List.{flat_map}
 use Rattle.cedar_language.specs.Uid.{Text}
-use Rattle.cedar_authoring.specs.Places.{line_feeds}
-use Rattle.cedar_authoring.specs.Telling.{below, Adds, AreBelow, IsLine}
+use Rattle.cedar_authoring.specs.Telling.{below, hides, Adds, AreBelow, IsLine}
 
 -- ---- one line
 
 pub line_more : (a b : Text) → IsLine a → IsLine b → IsLine (a ++ b)
-line_more a b first second = sum_by-append (λ c. cond (eqb c 10) 1 0) a b ∙ omega (arith, first, second)
-
-low : (b : Bool) → b ≡ false → cond b 1 0 ≤ 0
-low true is = absurd (cc)
-low false is = omega arith
-
-no_feeds : (xs : Text) → All (λ b. eqb b 10 ≡ false) xs → IsLine xs
-no_feeds xs other =
-    let most : line_feeds xs ≤ length xs * 0 = sum_by-le (λ b. cond (eqb b 10) 1 0) 0 xs (λ k d within. low (eqb (get_or xs k d) 10) (other k d within)) in
-    omega (arith, most)
-
--- what stands before the first line feed
-pub line_before : (xs : Text) → IsLine (before_first (λ b. eqb b 10) xs)
-line_before xs = no_feeds (before_first (λ b. eqb b 10) xs) other where
-  other : All (λ b. eqb b 10 ≡ false) (before_first (λ b. eqb b 10) xs)
-  other k d within = let found = fails_before_first (λ b. eqb b 10) xs k d (grind (arith, common_steps)) in grind (arith, common_steps)
-
--- all, where there is none
-pub line_alone : (xs : Text) → position_or_len (λ b. eqb b 10) xs ≡ length xs → IsLine xs
-line_alone xs none = subst IsLine (take_all (position_or_len (λ b. eqb b 10) xs) xs (omega (arith, none))) (line_before xs)
+line_more a b first second = sum_by-append (λ c. cond (hides c) 1 0) a b ∙ omega (arith, first, second)
 
 -- ---- lines below
 

@@ -2,7 +2,10 @@ pub mod Adding
 mod Awaited
 mod Below
 mod Checked
+mod Covered
+mod Errs
 mod Fitting
+mod Going
 pub mod Lending
 pub mod LinesRead
 mod NamesLeft
@@ -15,4 +18,5 @@ pub mod SingleScript
 mod Standings
 mod Told
 pub mod Turns
+mod Visible
 mod Waiting

@@ -13,8 +13,7 @@ use Rattle.cedar_world.specs.World.{World}
 use Rattle.cedar_authoring.specs.declared.scripts.script.Script.{Script}
 use Rattle.cedar_authoring.specs.declared.scripts.script.Step.{Step}
 use Rattle.cedar_authoring.specs.declared.scripts.script.Test.{Test}
-use Rattle.cedar_authoring.specs.Scripts.{AreAnswered, IsAnswered, IsFed, Passes, TellsScript, TellsTest, TellsTests, answers_step, as_expected, command_of, failed_of, passed_of}
-use Rattle.cedar_authoring.specs.Telling.{Adds}
+use Rattle.cedar_authoring.specs.Scripts.{AreAnswered, IsAnswered, IsFed, TellsScript, TellsTests, Went, answers_step, as_expected, command_of, failed_of, passed_of}
 
 -- ---- replies
 
@@ -55,7 +54,7 @@ module _ (by : Setting) where
   length-answers _ _ no_command = refl
   length-answers _ _ (a_command {commands = commands} {replies = replies} step others) = ap suc (length-answers commands replies others)
 
-  Answers-append : {old mid new : World} {commands further : List Command} {replies more : List Reply}
+  pub Answers-append : {old mid new : World} {commands further : List Command} {replies more : List Reply}
       → Answers by old commands replies mid → Answers by mid further more new → Answers by old (commands ++ further) (replies ++ more) new
   Answers-append no_command later = later
   Answers-append (a_command step others) later = a_command step (Answers-append others later)
@@ -97,12 +96,12 @@ module _ (by : Setting) where
   -- ---- scripts
 
   TellsTests-push : (set_up : List Step) (ts : List Test) (ps : List Bool) (t : Test) (p : Bool) (told more : Text)
-      → TellsTests by set_up ts ps told → Passes by (set_up ++ t.steps.items) p → TellsTest (string_bytes t.name) p more → TellsTests by set_up (ts ++ t ∷ []) (ps ++ p ∷ []) (told ++ more)
-  TellsTests-push set_up [] [] t p told more h passes one = (more, [], passes, one, refl, ap (λ x. x ++ more) h ∙ sym (append-nil more))
-  TellsTests-push set_up [] (q ∷ qs) t p told more h passes one = absurd h
-  TellsTests-push set_up (u ∷ us) [] t p told more h passes one = absurd h
-  TellsTests-push set_up (u ∷ us) (q ∷ qs) t p told more h passes one =
-      (h.0, h.1 ++ more, h.2, h.3, TellsTests-push set_up us qs t p h.1 more h.4 passes one, ap (λ x. x ++ more) h.5 ∙ append_assoc h.0 h.1 more)
+      → TellsTests by set_up ts ps told → Went by set_up t p more → TellsTests by set_up (ts ++ t ∷ []) (ps ++ p ∷ []) (told ++ more)
+  TellsTests-push set_up [] [] t p told more h went = (more, [], went, refl, ap (λ x. x ++ more) h ∙ sym (append-nil more))
+  TellsTests-push set_up [] (q ∷ qs) t p told more h went = absurd h
+  TellsTests-push set_up (u ∷ us) [] t p told more h went = absurd h
+  TellsTests-push set_up (u ∷ us) (q ∷ qs) t p told more h went =
+      (h.0, h.1 ++ more, h.2, TellsTests-push set_up us qs t p h.1 more h.3 went, ap (λ x. x ++ more) h.4 ∙ append_assoc h.0 h.1 more)
 
   -- so many tests passed and failed, and each is told of
   pub record Counted (set_up : List Step) (ts : List Test) (told : Text) (passed failed : ℕ) : Type 0 where
@@ -115,16 +114,16 @@ module _ (by : Setting) where
   count-push p ps q = sum_by-append (λ x. cond (p x) 1 0) ps (q ∷ [])
 
   -- the script of one more test
-  pub Counted-more : (set_up : List Step) (ts : List Test) (i : ℕ) (t : Test) (p : Bool) (old new : Text) (passed failed : ℕ) → i < length ts → t ≡ get_or ts i t
-      → Counted set_up (take i ts) old passed failed → Passes by (set_up ++ t.steps.items) p → Adds (TellsTest (string_bytes t.name) p) old new
+  pub Counted-more : (set_up : List Step) (ts : List Test) (i : ℕ) (t : Test) (p : Bool) (old more new : Text) (passed failed : ℕ) → i < length ts → t ≡ get_or ts i t
+      → Counted set_up (take i ts) old passed failed → Went by set_up t p more → new ≡ old ++ more
       → Counted set_up (take (i + 1) ts) new (passed + passed_of (p ∷ [])) (failed + failed_of (p ∷ []))
-  Counted-more set_up ts i t p old new passed failed within is so_far passes adds =
+  Counted-more set_up ts i t p old more new passed failed within is so_far went added =
       let P : List Test → Type 0 = λ us. TellsTests by set_up us (so_far.results ++ p ∷ []) new in
       let Q : Text → Type 0 = λ told. TellsTests by set_up (take i ts ++ t ∷ []) (so_far.results ++ p ∷ []) told in
       let taken : take i ts ++ t ∷ [] ≡ take (i + 1) ts = ap (λ y. take i ts ++ y ∷ []) is ∙ sym (take_more ts i t within) in
       record {
         results = so_far.results ++ p ∷ [];
-        tests = subst P taken (subst Q (sym adds.2) (TellsTests-push set_up (take i ts) so_far.results t p old adds.0 so_far.tests passes adds.1));
+        tests = subst P taken (subst Q (sym added) (TellsTests-push set_up (take i ts) so_far.results t p old more so_far.tests went));
         passes = ap (λ n. n + passed_of (p ∷ [])) so_far.passes ∙ sym (count-push (λ q. q) so_far.results p);
         fails = ap (λ n. n + failed_of (p ∷ [])) so_far.fails ∙ sym (count-push not so_far.results p);
       }

@@ -3,6 +3,7 @@ use Rattle.std.specs.Prelude.{◌≡◌, ◌≢◌, ◌⊎◌, ◌<◌, ℕ, Lis
 use Rattle.std.specs.Str.Lossy.{utf8_valid_len}
 use Rattle.cedar_language.specs.Answering.{Decision, Allow, Deny}
 use Rattle.cedar_language.specs.Uid.{Text}
+use Rattle.cedar_grammar.specs.Syntax.{PolicySyntax}
 use Rattle.cedar_frames.specs.Heads.{body_limit}
 use Rattle.cedar_frames.specs.declared.verb.Verb.{Verb}
 use Rattle.cedar_evaluator.specs.declared.partial_response.PartialResponse.{PartialResponse}
@@ -11,9 +12,9 @@ use Rattle.cedar_world.specs.Commands.{Load, Put, Ask, Named, Done, Answered, Re
 use Rattle.cedar_world.specs.Lines.{answer_line}
 use Rattle.cedar_world.specs.Setting.{Setting}
 use Rattle.cedar_world.specs.Step.{Step}
-use Rattle.cedar_world.specs.World.{World, new_world, Policies, in_force_at}
+use Rattle.cedar_world.specs.World.{World, new_world, Policies, in_force_at, template_at}
 use Rattle.cedar_session.specs.Lending.{IsResponse}
-use Rattle.cedar_authoring.specs.Checks.{TellsFaults}
+use Rattle.cedar_authoring.specs.Checks.{TellsFaults, TellsPolicy}
 use Rattle.cedar_authoring.specs.Names.{TellsNames}
 use Rattle.cedar_authoring.specs.Places.{position_at}
 use Rattle.cedar_authoring.specs.RefusedBodies.{TellsBody}
@@ -26,10 +27,14 @@ status_of (Some Allow) = 0
 status_of (Some Deny) = 2
 status_of None = 3
 
--- nothing is told of a template, and of a policy in force how it stands
+-- a line tells of what is held, where it is a template
+abbrev pub TellsTemplate : Text → Option PolicySyntax → Text → Text → Type 0
+TellsTemplate name template id told = MatchOption template (told ≡ []) (λ _. TellsPolicy name id told)
+
+-- of a policy in force is told how it stands, and of a template that it is one
 abbrev pub TellsOne : Text → Policies → PartialResponse → Text → Text → Type 0
 TellsOne name policies response id told =
-    MatchOption (in_force_at policies id) (told ≡ []) (λ policy. TellsStanding name response id told)
+    MatchOption (in_force_at policies id) (TellsTemplate name (template_at policies id) id told) (λ policy. TellsStanding name response id told)
 
 abbrev pub TellsPolicies : Text → Policies → PartialResponse → List Text → Text → Type 0
 TellsPolicies name policies response ids told = TellsEach (TellsOne name policies response) ids told

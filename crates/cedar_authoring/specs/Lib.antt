@@ -1,5 +1,7 @@
 pub mod Awaiting
+pub mod Checkers
 pub mod Checks
+pub mod Covering
 pub mod Explaining
 pub mod Faults
 pub mod Names
@@ -8,6 +10,7 @@ pub mod RefusedBodies
 pub mod ScriptFaults
 pub mod ScriptLaws
 pub mod ScriptLines
+pub mod ScriptQuestions
 pub mod ScriptTexts
 pub mod Scripts
 pub mod Spoken

@@ -1,5 +1,5 @@
 -- Where a byte of a text stands, as editors count.
-use Rattle.std.specs.Prelude.{ℕ, List, Bool, nat_lt, nat_le, ◌+◌, ◌||◌, ◌==◌, count_by, take}
+use Rattle.std.specs.Prelude.{◌≡◌, ◌<◌, ℕ, List, Bool, nat_lt, nat_le, ◌+◌, ◌*◌, ◌||◌, ◌==◌, count_by, get_or, length, take}
 use Rattle.std.specs.List.{after_last}
 use Rattle.cedar_authoring.specs.declared.places.Position.{Position}
 
@@ -22,3 +22,7 @@ characters bytes = count_by begins_character bytes
 -- the line and the column of a byte
 abbrev pub position_at : List ℕ → ℕ → Position
 position_at bytes byte = record { line = 1 + line_feeds (take byte bytes); column = 1 + characters (last_line (take byte bytes)) }
+
+-- of every 256th byte its line and column, from the first
+abbrev pub AreCounted : List ℕ → List Position → Type 0
+AreCounted bytes counted = (k : ℕ) (other : Position) → k < length counted → get_or counted k other ≡ position_at bytes (k * 256)

@@ -1,10 +1,11 @@
 -- Scripts of commands: what their tests pass by, and what is told of them.
-use Rattle.std.specs.Prelude.{◌≡◌, ◌≢◌, ◌↔◌, ◌⊎◌, ◌<◌, ◌≤◌, ℕ, List, [], ◌∷◌, ◌++◌, map, length, slice_index, codes, Bool, true, false, not, ◌&&◌, ◌||◌, ◌==◌, nat_eq, count_by, All, Option, Some, None, option_map, string_bytes}
+use Rattle.std.specs.Prelude.{◌≡◌, ◌≢◌, ◌↔◌, ◌⊎◌, ◌<◌, ◌≤◌, ℕ, ◌+◌, List, [], ◌∷◌, ◌++◌, map, length, slice_index, codes, Bool, true, false, not, ◌&&◌, ◌||◌, ◌==◌, nat_eq, count_by, All, Option, Some, None, option_map, string_bytes}
 use Rattle.std.specs.List.{Contains, starts_with}
+use Rattle.std.specs.FinMap as finite
 use Rattle.std.specs.Fmt.{decimal}
 use Rattle.cedar_language.specs.Uid.{Text}
 use Rattle.cedar_frames.specs.Heads.{body_limit}
-use Rattle.cedar_world.specs.Commands.{Memory, Reply, Refused}
+use Rattle.cedar_world.specs.Commands.{Memory, Reply, Answered, Refused}
 use Rattle.cedar_world.specs.Lines.{line_of}
 use Rattle.cedar_world.specs.Session.{Command, Answers}
 use Rattle.cedar_world.specs.Setting.{Setting}
@@ -28,11 +29,20 @@ FitsCommand s = length (string_bytes s.body) ≤ body_limit
 abbrev pub says : Text → Text → Bool
 says words line = starts_with nat_eq line words && (slice_index line (length words) == 10 || slice_index line (length words) == 32)
 
--- What must be answered: a line that says these words; where none are given, no refusal.
+-- nothing but the line feed stands behind the words with which the line begins
+abbrev pub is_whole : Text → Text → Bool
+is_whole words line = nat_eq (length line) (length words + 1)
+
+-- an answer by which some policy errs
+abbrev pub errs : Reply → Bool
+errs (Answered answer) = not (length (finite.entries answer.erring) == 0)
+errs reply = false
+
+-- What must be answered: a line that says these words, and all of it where a policy errs; where none are given, no refusal.
 abbrev pub is_expected : Option Text → Reply → Bool
 is_expected None (Refused r) = false
 is_expected None reply = true
-is_expected (Some words) reply = says words (line_of reply)
+is_expected (Some words) reply = says words (line_of reply) && (not (errs reply) || is_whole words (line_of reply))
 
 abbrev pub answers_step : Step → Reply → Bool
 answers_step s reply = is_expected (option_map string_bytes s.expected) reply
@@ -72,12 +82,22 @@ abbrev pub TellsTest : Text → Bool → Text → Type 0
 TellsTest name true told = told ≡ (codes "ok   " ++ name) ++ codes "\n"
 TellsTest name false told = (more : Text) × AreBelow more × (told ≡ ((codes "FAIL " ++ name) ++ codes "\n") ++ more)
 
+-- each text of the set-up and of the test is one that a command may have
+abbrev pub FitTest : List Step → Test → Type 0
+FitTest set_up test = All FitsCommand set_up × All FitsCommand test.steps.items
+
+-- How a test went: it passes where a session that was just made answers the set-up, and then its commands, as is expected;
+-- where a text is too long it doesn't run, nor pass.
+pub record Went (by : Setting) (set_up : List Step) (test : Test) (passed : Bool) (told : Text) : Type 0 where
+  pub ran : FitTest set_up test → Passes by (set_up ++ test.steps.items) passed
+  pub long : (FitTest set_up test → ⊥) → passed ≡ false
+  pub tells : TellsTest (string_bytes test.name) passed told
+
 -- Each test ran in a session of its own, which was given the set-up first, and is told of.
 abbrev pub TellsTests : Setting → List Step → List Test → List Bool → Text → Type 0
 TellsTests by set_up [] [] told = told ≡ []
 TellsTests by set_up (t ∷ ts) (p ∷ ps) told =
-    (first others : Text) × Passes by (set_up ++ t.steps.items) p × TellsTest (string_bytes t.name) p first
-    × TellsTests by set_up ts ps others × (told ≡ first ++ others)
+    (first others : Text) × Went by set_up t p first × TellsTests by set_up ts ps others × (told ≡ first ++ others)
 TellsTests by set_up _ _ told = ⊥
 
 -- ---- scripts

@@ -1,14 +1,17 @@
 -- What is told of a text: lines that begin with its name, and with a place in it.
-use Rattle.std.specs.Prelude.{◌≡◌, List, [], ◌∷◌, ◌++◌, codes, All, Option, Some, None}
+use Rattle.std.specs.Prelude.{◌≡◌, ℕ, Bool, not, nat_lt, ◌&&◌, ◌||◌, ◌==◌, count_by, List, [], ◌∷◌, ◌++◌, codes, All, Option, Some, None}
 use Rattle.std.specs.Fmt.{decimal}
 use Rattle.std.specs.List.{flat_map}
 use Rattle.cedar_language.specs.Uid.{Text}
 use Rattle.cedar_authoring.specs.declared.places.Position.{Position}
-use Rattle.cedar_authoring.specs.Places.{line_feeds}
 
--- it has no line feed
+-- a control character of ASCII that isn't the tab
+abbrev pub hides : ℕ → Bool
+hides b = (nat_lt b 32 && not (b == 9)) || b == 127
+
+-- it has no control characters but tabs, so no line feed
 abbrev pub IsLine : Text → Type 0
-IsLine text = line_feeds text ≡ 0
+IsLine text = count_by hides text ≡ 0
 
 -- a line that stands below another, behind a space
 abbrev pub below : Text → Text

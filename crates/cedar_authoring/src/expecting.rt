@@ -1,13 +1,14 @@
 // What commands must be answered, and whether they are.
-ghost use Rattle.std.specs.Prelude.{◌≡◌, ◌≢◌, All, string_bytes, IfOk, IfNone, IfSome, OnOk};
+ghost use Rattle.std.specs.Prelude.{◌≡◌, ◌≢◌, ◌==◌, ◌&&◌, ◌||◌, All, length, not, string_bytes, IfOk, IfNone, IfSome, OnOk};
+ghost use Rattle.std.specs.FinMap as finite;
 ghost use Rattle.std.specs.List.{Contains};
-ghost use Rattle.cedar_replies.specs.Replies.{reply_of};
+ghost use Rattle.cedar_replies.specs.Replies.{accepted, reply_of};
 ghost use Rattle.cedar_replies.specs.declared.refusal.Refusal.TheVariants as refusals;
-ghost use Rattle.cedar_authoring.specs.Scripts.{Fits, FitsCommand, HasStep, IsFed, TellsTest, answers_step, says};
+ghost use Rattle.cedar_authoring.specs.Scripts.{Fits, FitsCommand, HasStep, IsFed, TellsTest, answers_step, errs, is_whole, says};
 ghost use Rattle.cedar_authoring.specs.Telling.{Adds, AreBelow};
 
 use crate::scripts::{Script, Step};
-use cedar_session::{BODY_LIMIT, Refusal, Reply, line_in_memory};
+use cedar_session::{BODY_LIMIT, Erring, Refusal, Reply, line_in_memory};
 use std::alloc::{AllocError, Global};
 
 /// Whether a command is answered as is expected.
@@ -24,7 +25,46 @@ pub(crate) fn is_expected(
         return Ok(outcome.is_ok());
     };
     let line = line_in_memory(alloc, outcome)?;
-    Ok(says(words.as_bytes(), line.as_slice()))
+    Ok(says_enough(words.as_bytes(), line.as_slice(), errs(outcome)))
+}
+
+/// Whether these words say the line, and all of it where policies err.
+fn says_enough(words: &[u8], line: &[u8], errs: bool) -> bool
+    ensures { result ≡ (says words.now line.now && (not errs || is_whole words.now line.now)) }
+{
+    says(words, line) && (!errs || is_whole(words, line))
+}
+
+/// Whether it is an answer by which some policy errs.
+fn errs(outcome: &Result<Reply, Refusal>) -> bool
+    ensures { result ≡ errs (reply_of outcome.now) }
+{
+    match outcome {
+        Ok(reply) => shows_errors(reply),
+        Err(_) => false,
+    }
+}
+
+fn shows_errors(reply: &Reply) -> bool
+    ensures { result ≡ errs (accepted reply.now) }
+{
+    match reply {
+        Reply::Answer(answer) => is_any(&answer.erring),
+        Reply::Ids(_) | Reply::Done => false,
+    }
+}
+
+fn is_any(erring: &Erring) -> bool
+    ensures { result ≡ not (length (finite.entries erring.now) == 0) }
+{
+    !erring.as_slice().is_empty()
+}
+
+/// Whether nothing but its line feed stands in the line behind the words with which it begins.
+fn is_whole(words: &[u8], line: &[u8]) -> bool
+    ensures { result ≡ is_whole words.now line.now }
+{
+    line.len() == words.len() + 1
 }
 
 /// Refused where a command is refused for want of memory.
@@ -76,7 +116,7 @@ pub(crate) fn first_long(script: &Script) -> Option<&Step>
     None
 }
 
-fn long_among(steps: &[Step]) -> Option<&Step>
+pub(crate) fn long_among(steps: &[Step]) -> Option<&Step>
     ensures none { IfNone result (All FitsCommand steps.now) }
     ensures long { IfSome result (λ step. FitsCommand step.now → ⊥) }
     ensures among { IfSome result (λ step. Contains steps.now step.now) }

@@ -1,7 +1,6 @@
 // What decides a question, policy by policy.
-ghost use Rattle.std.specs.Prelude.{◌≡◌, ◌≢◌, ◌⊎◌, ◌++◌, string_bytes, option_map, map, IfOk, OnOk, IfNone, IfSome, ◌≤◌, length};
+ghost use Rattle.std.specs.Prelude.{◌≡◌, ◌≢◌, ◌⊎◌, ◌++◌, string_bytes, option_map, map, IfOk, OnOk, ◌≤◌, length};
 ghost use Rattle.cedar_frames.specs.Heads.{body_limit};
-ghost use Rattle.cedar_policies.specs.Policies.{policy_id};
 ghost use Rattle.cedar_policy_parts.specs.Decisions.{decision_of};
 ghost use Rattle.cedar_replies.specs.Replies.{answer_of};
 ghost use Rattle.cedar_replies.specs.declared.refusal.Refusal.TheVariants as refusals;
@@ -12,18 +11,17 @@ ghost use Rattle.cedar_world.specs.Lines.{answer_line};
 ghost use Rattle.cedar_authoring.specs.Checks.{TellsFaults};
 ghost use Rattle.cedar_authoring.specs.Explaining.{status_of, TellsAnswered, TellsExplained, TellsPolicies, TellsUnexplained};
 ghost use Rattle.cedar_authoring.specs.Names.{names_left, names_of, TellsNames, AwaitedNamesSuffice};
-ghost use Rattle.cedar_authoring.specs.Standing.{TellsStanding};
 ghost use Rattle.cedar_authoring.specs.Telling.{Adds};
 ghost use Rattle.cedar_authoring.specs.Titles.{titled, titled_text};
 
 use crate::awaiting::{awaited, listed, once, push_standing};
 use crate::checking::{DEPTH, Report, refuse_unread};
 use crate::giving::{Refused, Source, read_source, tell_refusal};
-use crate::standing::{Standing, tell_standing};
+use crate::held::tell_one;
+use crate::origins::Origin;
+use crate::places::Places;
 use cedar_extensions::objects::ExtensionFunctionObject;
-use cedar_held::worlds::policy_sets_are_worlds;
 use cedar_parser::strict::parse_policyset;
-use cedar_policies::policies::Policy;
 use cedar_policy_parts::annotations::Annotations;
 use cedar_policy_set::policy_map::PolicyMap;
 use cedar_session::{
@@ -45,9 +43,9 @@ pub struct Named<'t> {
 /// session over this table, with the program's limit of depth.
 ///
 /// Told is first the line that answers the question; then of each policy in force, in their order, where it stands, its
-/// id, its effect, its annotation `@id`, and whether it is satisfied, isn't, errs, or is open. Below one that errs stands
-/// why and where, and below one that is open what is left of it, and the names for whose values that waits. Last come the
-/// names for which any of them waits.
+/// id, its effect, its annotation `@id`, and whether it is satisfied, isn't, errs, or is open; and of a template that it
+/// is one, and how many links it has. Below a policy that errs stands why and where, and below one that is open what is
+/// left of it, and the names for whose values that waits. Last come the names for which any of them waits.
 ///
 /// The status is 0 where the question is answered `allow`, 2 where it is `deny`, and 3 where it is `open`. It is 1 where
 /// one of the texts is refused, and then lines tell why. Refused for memory alone.
@@ -165,7 +163,7 @@ fn explain<F: ExtensionFunctionObject>(
 }
 
 /// The line that answers a question.
-fn answer_line(alloc: Global, answer: Answer) -> Result<String, AllocError>
+pub(crate) fn answer_line(alloc: Global, answer: Answer) -> Result<String, AllocError>
     ensures { IfOk result (λ line. string_bytes line ≡ answer_line (answer_of answer)) }
 {
     let line = line_in_memory(alloc, &Ok(Reply::Answer(answer)))?;
@@ -176,7 +174,7 @@ fn answer_line(alloc: Global, answer: Answer) -> Result<String, AllocError>
 }
 
 /// The status for what is decided.
-fn status_of(decision: Option<Decision>) -> u8
+pub(crate) fn status_of(decision: Option<Decision>) -> u8
     ensures { result ≡ status_of (option_map decision_of decision) }
 {
     match decision {
@@ -186,7 +184,7 @@ fn status_of(decision: Option<Decision>) -> u8
     }
 }
 
-/// Tells how each policy in force stands.
+/// Tells how each policy in force stands, and of each template how many links it has.
 fn tell_policies<F: ExtensionFunctionObject>(
     alloc: Global,
     told: &mut String,
@@ -197,45 +195,22 @@ fn tell_policies<F: ExtensionFunctionObject>(
 ) -> Result<(), AllocError>
     ensures { OnOk result (Adds (TellsPolicies source.entry.name.now (world_of session.now).policies response.now ids.now) (string_bytes told.old) (string_bytes told.new)) }
 {
-    policy_sets_are_worlds();
     let untold = once(session.untold()?);
     let policies = session.policies();
-    // Its contract says that the template of a link is bound.
-    let _bound = policies.len();
+    let places = Places::of(alloc, source.text)?;
+    let origin = Origin::of(source.name, &places);
     for id in ids {
         tell_one(
             alloc,
             told,
-            source,
-            policies.get(id),
+            origin,
+            policies,
             response,
             id,
             untold.as_slice(),
         )?;
     }
     Ok(())
-}
-
-/// Tells how a policy stands, where one is in force under the id.
-fn tell_one(
-    alloc: Global,
-    told: &mut String,
-    source: Source<'_>,
-    policy: Option<&Policy>,
-    response: &PartialResponse,
-    id: &PolicyID,
-    untold: &[&str],
-) -> Result<(), AllocError>
-    ensures none { IfNone policy.entry (OnOk result (string_bytes told.new ≡ string_bytes told.old)) }
-    ensures some { IfSome policy.entry (λ policy. policy_id policy.now ≡ id.now → OnOk result (Adds (TellsStanding source.entry.name.now response.now id.now) (string_bytes told.old) (string_bytes told.new))) }
-{
-    match policy {
-        None => Ok(()),
-        Some(policy) => {
-            let standing = Standing::of(response, id);
-            tell_standing(alloc, told, source, policy, standing, untold)
-        }
-    }
 }
 
 /// Until a name is told for which what is left of policies waits, none is told that stands there; and until then, a
@@ -245,7 +220,7 @@ pub fn awaited_names_suffice()
 {}
 
 /// Tells the names for which what is left of the policies waits.
-fn tell_names<F: ExtensionFunctionObject>(
+pub(crate) fn tell_names<F: ExtensionFunctionObject>(
     alloc: Global,
     told: &mut String,
     session: &Session<'_, '_, F>,

@@ -4,14 +4,19 @@ ghost use Rattle.cedar_parser.specs.ErrorsLeft.{errors_of};
 ghost use Rattle.cedar_authoring.specs.Faults.{place_of, TellsErrors, TellsFault};
 ghost use Rattle.cedar_authoring.specs.Telling.{Adds, AreBelow, TellsEach};
 
-use crate::places::{Position, position_in};
-use crate::telling::{shown, tell};
-use cedar_parser::err::{POLICY_TOKEN_CONFIG, ParseError, ParseErrors};
+use crate::brackets::unclosed;
+use crate::expected_tokens::expected;
+use crate::helping::help_of;
+use crate::marking::push_source;
+use crate::places::{Places, Position};
+use crate::telling::{push_indented, tell};
+use cedar_parser::err::{ParseError, ParseErrors};
 use std::alloc::{AllocError, Global};
 
 /// Tells each error by which a text isn't read, in their order, under a name for the text: a line
-/// `NAME:LINE:COLUMN: MESSAGE`, and below it the source line, a mark at the place and what was expected there.
-/// A text that is nested too deep has no place. Refused for memory alone.
+/// `NAME:LINE:COLUMN: MESSAGE`, and below it the source line, a mark below what is wrong, what was expected there, and
+/// help where there is some. A text that is nested too deep has no place. Takes time linear in the text, and for each
+/// error time linear in what it is of. Refused for memory alone.
 pub fn tell_faults(
     alloc: Global,
     name: &str,
@@ -20,9 +25,10 @@ pub fn tell_faults(
 ) -> Result<String, AllocError>
     ensures { IfOk result (λ told. TellsEach (TellsFault name.now text.now) (errors_of errors.now) (string_bytes told)) }
 {
+    let places = Places::of(alloc, text)?;
     let mut told = String::new(alloc);
-    tell_fault(alloc, &mut told, name, text, &errors.0.head)?;
-    tell_others(alloc, &mut told, name, text, errors.0.tail.as_slice())?;
+    tell_fault(alloc, &mut told, name, &places, &errors.0.head)?;
+    tell_others(alloc, &mut told, name, &places, errors.0.tail.as_slice())?;
     Ok(told)
 }
 
@@ -45,13 +51,13 @@ fn tell_others(
     alloc: Global,
     told: &mut String,
     name: &str,
-    text: &str,
+    places: &Places<'_>,
     errors: &[ParseError],
 ) -> Result<(), AllocError>
-    ensures { OnOk result (Adds (TellsEach (TellsFault name.now text.now) errors.now) (string_bytes told.old) (string_bytes told.new)) }
+    ensures { OnOk result (Adds (TellsEach (TellsFault name.now places.now.text.now) errors.now) (string_bytes told.old) (string_bytes told.new)) }
 {
     for error in errors {
-        tell_fault(alloc, told, name, text, error)?;
+        tell_fault(alloc, told, name, places, error)?;
     }
     Ok(())
 }
@@ -60,30 +66,29 @@ fn tell_fault(
     alloc: Global,
     told: &mut String,
     name: &str,
-    text: &str,
+    places: &Places<'_>,
     error: &ParseError,
 ) -> Result<(), AllocError>
-    ensures { OnOk result (Adds (TellsFault name.now text.now error.now) (string_bytes told.old) (string_bytes told.new)) }
+    ensures { OnOk result (Adds (TellsFault name.now places.now.text.now error.now) (string_bytes told.old) (string_bytes told.new)) }
 {
-    let place = place_of(text, error);
+    let place = place_of(places, error);
     let message = format!(in alloc; "{error}")?;
-    let below = shown_below(alloc, text, place, error)?;
+    let below = shown_below(alloc, places, error)?;
     tell(alloc, told, name, place, message.as_str(), below.as_str())?;
     Ok(())
 }
 
 /// Where an error stands, if that is known.
-fn place_of(text: &str, error: &ParseError) -> Option<Position>
-    ensures { result ≡ place_of text.now error.now }
+fn place_of(places: &Places<'_>, error: &ParseError) -> Option<Position>
+    ensures { result ≡ place_of places.now.text.now error.now }
 {
-    let bytes = text.as_bytes();
     match error {
         ParseError::ToCST(error) => match error.primary_source_span() {
-            Some(span) => Some(position_in(bytes, span.start)),
+            Some(span) => Some(places.position(span.start)),
             None => None,
         },
         ParseError::ToAST(error) => match &error.loc {
-            Some(loc) => Some(position_in(bytes, loc.start())),
+            Some(loc) => Some(places.position(loc.start())),
             None => None,
         },
         ParseError::Depth | ParseError::Memory => None,
@@ -91,24 +96,43 @@ fn place_of(text: &str, error: &ParseError) -> Option<Position>
 }
 
 /// What is shown below the line of an error.
-fn shown_below(
-    alloc: Global,
-    text: &str,
-    place: Option<Position>,
-    error: &ParseError,
-) -> Result<String, AllocError>
+fn shown_below(alloc: Global, places: &Places<'_>, error: &ParseError) -> Result<String, AllocError>
     ensures { IfOk result (λ below. AreBelow (string_bytes below)) }
 {
-    match expected(alloc, error)? {
-        Some(expected) => shown(alloc, text, place, Some(expected.as_str())),
-        None => shown(alloc, text, place, None),
+    let mut below = String::new(alloc);
+    push_source(alloc, &mut below, places, error)?;
+    let expected = expected(alloc, error)?;
+    push_if_any(&mut below, expected)?;
+    let help = help(alloc, places, error)?;
+    push_if_any(&mut below, help)?;
+    Ok(below)
+}
+
+fn push_if_any(told: &mut String, line: Option<String>) -> Result<(), AllocError>
+    ensures { OnOk result (Adds AreBelow (string_bytes told.old) (string_bytes told.new)) }
+{
+    match line {
+        Some(line) => push_indented(told, line.as_str()),
+        None => Ok(()),
     }
 }
 
-/// The tokens of which one was expected, where there are any.
-fn expected(alloc: Global, error: &ParseError) -> Result<Option<String>, AllocError> {
-    match error {
-        ParseError::ToCST(error) => error.label(alloc, &POLICY_TOKEN_CONFIG),
-        ParseError::ToAST(_) | ParseError::Depth | ParseError::Memory => Ok(None),
+/// What helps: a sentence, or else which bracket isn't closed.
+fn help(
+    alloc: Global,
+    places: &Places<'_>,
+    error: &ParseError,
+) -> Result<Option<String>, AllocError> {
+    if let Some(sentence) = help_of(error, places.text) {
+        return Ok(Some(format!(in alloc; "help: {sentence}")?));
     }
+    let Some((bracket, byte)) = unclosed(alloc, error, places.text)? else {
+        return Ok(None);
+    };
+    let at = places.position(byte);
+    let line = format!(in alloc;
+        "help: the `{bracket}` at {}:{} isn't closed",
+        at.line, at.column
+    )?;
+    Ok(Some(line))
 }

@@ -266,7 +266,7 @@ fn placed_told(
     ensures { IfOk result (λ told. TellsOfAPart source.entry.name.now (string_bytes told)) }
 {
     let place = place_in(source, byte);
-    let below = shown(alloc, source.text, place, None)?;
+    let below = shown(alloc, source.text, place)?;
     let mut told = String::new(alloc);
     tell(
         alloc,

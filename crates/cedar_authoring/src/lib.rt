@@ -1,21 +1,35 @@
 //! For those who write policies: why a text is refused, and where; tests of policies; and what decides a question.
 //!
-//! [`check_text`] takes a text of policies and gives a report. [`read_script`] reads a script of commands and tests, and
-//! [`run_script`] gives a report of how they went. [`explained`] tells how each policy stands to a question.
-//! `crates/cedar_cli` does all three with files.
+//! [`check_text`] takes a text of policies and gives a report. [`read_script`] reads a script of commands and tests,
+//! [`run_script`] gives a report of how they went, and [`run_test`] of one of them; [`Coverage`] says which policies they
+//! try. [`explained`] tells how each policy stands to a question, and [`explained_at`] to one of a script.
+//! `crates/cedar_cli` does all this with files.
 #![tactic(auto)]
 
+mod at_line;
 mod awaiting;
 mod body_faults;
+mod brackets;
 mod checking;
+mod covering;
 mod edit_faults;
+mod expected_tokens;
 mod expecting;
 mod explaining;
 mod faults;
 mod giving;
+mod held;
+mod helping;
+mod helping_tokens;
+mod helping_words;
 mod listing;
+mod marking;
+mod origins;
+mod past;
 mod places;
+mod reasons;
 mod running;
+mod scopes;
 mod scripts;
 mod shapes;
 mod standing;
@@ -23,11 +37,14 @@ mod telling;
 mod value_faults;
 mod wrong;
 
-pub use checking::{DEPTH, Report, check_text};
+pub use at_line::explained_at;
+pub use checking::{Checker, DEPTH, Report, check_text};
+pub use covering::Coverage;
 pub use explaining::{Named, awaited_names_suffice, explained};
 pub use faults::tell_faults;
+pub use helping::help_of;
 pub use places::{Position, line_and_column};
-pub use running::run_script;
+pub use running::{Outcome, refuse_long, run_script, run_test};
 pub use scripts::{
     Script, ScriptError, ScriptFault, Step, Test, faults_are_in_no_script, faults_are_one,
     lines_say_one_thing, read_script, texts_are_one_script,

@@ -1,28 +1,69 @@
 // The policies of a text that is fine, a line for each.
-ghost use Rattle.std.specs.Prelude.{string_bytes, IfOk, OnOk};
-ghost use Rattle.cedar_authoring.specs.Checks.{TellsPolicy};
+ghost use Rattle.std.specs.Prelude.{[], string_bytes, IfOk, OnOk};
+ghost use Rattle.cedar_authoring.specs.Checks.{TellsPolicy, TellsPolicies};
 ghost use Rattle.cedar_authoring.specs.Telling.{Adds, IsLine, TellsEach};
 
-use crate::places::{Position, line_and_column};
+use crate::places::{Places, Position};
 use crate::telling::{on_one_line, tell_line};
 use cedar_parser::PolicySet;
 use cedar_policies::templates::Template;
 use cedar_session::PolicyID;
 use std::alloc::{AllocError, Global};
 
-/// Tells of each of these ids, in their order, what stands under it in the set.
+/// The policies of a text as they stand in a set, in the text's order.
+#[derive(Clone, Copy)]
+pub(crate) struct Listed<'l> {
+    pub(crate) set: &'l PolicySet,
+    pub(crate) ids: &'l [PolicyID],
+}
+
+impl<'l> Listed<'l> {
+    /// The policy with this number in the text.
+    fn policy(self, number: usize) -> Option<&'l Template> {
+        self.set.get_template(self.ids.get(number)?)
+    }
+}
+
+/// Tells of each of these ids, in their order, the policy of the text that is listed beside it; or that there is none.
 pub(crate) fn tell_policies(
     alloc: Global,
     name: &str,
     text: &str,
-    set: &PolicySet,
     ids: &[PolicyID],
+    listed: Listed<'_>,
+) -> Result<String, AllocError>
+    ensures { IfOk result (λ told. TellsPolicies name.now ids.now (string_bytes told)) }
+{
+    if ids.is_empty() {
+        return tell_none(alloc, name);
+    }
+    tell_each(alloc, name, text, ids, listed)
+}
+
+fn tell_none(alloc: Global, name: &str) -> Result<String, AllocError>
+    ensures { IfOk result (λ told. TellsPolicies name.now [] (string_bytes told)) }
+{
+    let mut told = String::new(alloc);
+    tell_line(alloc, &mut told, name, None, "no policies", "")?;
+    Ok(told)
+}
+
+fn tell_each(
+    alloc: Global,
+    name: &str,
+    text: &str,
+    ids: &[PolicyID],
+    listed: Listed<'_>,
 ) -> Result<String, AllocError>
     ensures { IfOk result (λ told. TellsEach (TellsPolicy name.now) ids.now (string_bytes told)) }
 {
+    let places = Places::of(alloc, text)?;
     let mut told = String::new(alloc);
+    let mut number = 0usize;
     for id in ids {
-        tell_policy(alloc, &mut told, name, text, id, set.get_template(id))?;
+        let policy = listed.policy(number);
+        tell_policy(alloc, &mut told, name, &places, id, policy)?;
+        number = number.saturating_add(1);
     }
     Ok(told)
 }
@@ -31,23 +72,23 @@ fn tell_policy(
     alloc: Global,
     told: &mut String,
     name: &str,
-    text: &str,
+    places: &Places<'_>,
     id: &PolicyID,
     policy: Option<&Template>,
 ) -> Result<(), AllocError>
     ensures { OnOk result (Adds (TellsPolicy name.now id.now) (string_bytes told.old) (string_bytes told.new)) }
 {
-    let place = policy.and_then(|policy| place_of(text, policy));
+    let place = place_of(places, policy);
     let what = described(alloc, policy)?;
     let line = format!(in alloc; "{} {}", id.as_str(), what.as_str())?;
     tell_line(alloc, told, name, place, line.as_str(), "")?;
     Ok(())
 }
 
-/// Where a policy begins.
-fn place_of(text: &str, policy: &Template) -> Option<Position> {
-    match policy.loc() {
-        Some(loc) => Some(line_and_column(text, loc.start())),
+/// Where a policy begins, if that is known.
+fn place_of(places: &Places<'_>, policy: Option<&Template>) -> Option<Position> {
+    match policy?.loc() {
+        Some(loc) => Some(places.position(loc.start())),
         None => None,
     }
 }

@@ -1,25 +1,32 @@
 // The tests of a script, run in sessions.
-ghost use Rattle.std.specs.Prelude.{◌≡◌, ◌⊎◌, ◌++◌, ◌&&◌, All, string_bytes, IfOk, OnOk};
+ghost use Rattle.std.specs.Prelude.{◌≡◌, ◌⊎◌, ◌++◌, ◌&&◌, All, false, string_bytes, IfNone, IfOk, IfSome, OnOk};
 ghost use Rattle.cedar_session.specs.Settings.{setting_with};
 ghost use Rattle.cedar_session.specs.Sessions.{setting_of, world_of};
-ghost use Rattle.cedar_authoring.specs.Scripts.{AreAnswered, Fits, FitsCommand, IsAnswered, Passes, TellsLong, TellsScript, TellsTest};
+ghost use Rattle.cedar_authoring.specs.Scripts.{AreAnswered, Fits, FitsCommand, IsAnswered, Passes, TellsLong, TellsScript, TellsTest, Went};
 ghost use Rattle.cedar_authoring.specs.Telling.{Adds, AreBelow};
 
 use crate::checking::{DEPTH, Report};
-use crate::expecting::{first_long, is_expected, tell_test};
+use crate::expecting::{first_long, is_expected, long_among, tell_test};
+use crate::reasons::tell_reasons;
 use crate::scripts::{Script, Step, Test};
+use crate::telling::push_indented;
 use crate::wrong::tell_wrong;
 use cedar_extensions::objects::ExtensionFunctionObject;
-use cedar_session::{Command, Extensions, Session};
+use cedar_session::{Command, Extensions, Refusal, Reply, Session};
 use std::alloc::{AllocError, Global};
+
+/// How a test went, and what is told of it: `ok   NAME`, or `FAIL NAME` and lines below it, which begin with a space.
+#[derive(Debug, Drop)]
+pub struct Outcome {
+    pub passed: bool,
+    pub text: String,
+}
 
 /// Runs the tests of a script, named so in what is told.
 ///
-/// Each test has a session of its own over this table, with the program's limit of depth, which is given the commands
-/// before the first test and then those of the test. It passes where each is answered as is expected. Told is
-/// `ok   TEST`, or `FAIL TEST` with what was answered otherwise below, and last how many passed and failed. The status
-/// is 0 where at least one passed and none failed, and else 1. It is 2 where the text of a command is longer than
-/// 1,048,576 bytes; then no test runs. Refused for memory alone.
+/// Each test runs as [`run_test`] says. Told is each, and last how many passed and failed. The status is 0 where at least
+/// one passed and none failed, and else 1. It is 2 where the text of a command is longer than 1,048,576 bytes; then no
+/// test runs. Refused for memory alone.
 pub fn run_script<F: ExtensionFunctionObject>(
     alloc: Global,
     extensions: &Extensions<'_, F>,
@@ -32,14 +39,28 @@ pub fn run_script<F: ExtensionFunctionObject>(
         → TellsScript (setting_with F.answers extensions.now DEPTH) script.now report.status (string_bytes report.text)) }
     ensures status { IfOk result (λ report. (report.status ≡ 0) ⊎ (report.status ≡ 1) ⊎ (report.status ≡ 2)) }
 {
-    if let Some(step) = first_long(script) {
-        let text = format!(in alloc;
-            "{name}:{}: the text is longer than 1,048,576 bytes\n",
-            step.line
-        )?;
-        return Ok(Report { status: 2, text });
+    match refuse_long(alloc, name, script)? {
+        Some(report) => Ok(report),
+        None => run_tests(alloc, extensions, name, script),
     }
-    run_tests(alloc, extensions, name, script)
+}
+
+/// The report, of status 2, where the text of some command of a script is longer than 1,048,576 bytes; it tells the
+/// command's line. None where each text fits. Refused for memory alone.
+pub fn refuse_long(alloc: Global, name: &str, script: &Script) -> Result<Option<Report>, AllocError>
+    ensures fits { IfOk result (λ refused. IfNone refused (Fits script.now)) }
+    ensures long { IfOk result (λ refused. IfSome refused (λ report. Fits script.now → ⊥)) }
+    ensures told { IfOk result (λ refused. IfSome refused (λ report. TellsLong name.now script.now (string_bytes report.text))) }
+    ensures status { IfOk result (λ refused. IfSome refused (λ report. report.status ≡ 2)) }
+{
+    let Some(step) = first_long(script) else {
+        return Ok(None);
+    };
+    let text = format!(in alloc;
+        "{name}:{}: the text is longer than 1,048,576 bytes\n",
+        step.line
+    )?;
+    Ok(Some(Report { status: 2, text }))
 }
 
 fn run_tests<F: ExtensionFunctionObject>(
@@ -48,7 +69,6 @@ fn run_tests<F: ExtensionFunctionObject>(
     name: &str,
     script: &Script,
 ) -> Result<Report, AllocError>
-    requires fits { Fits script.now }
     ensures ran { IfOk result (λ report. TellsScript (setting_with F.answers extensions.now DEPTH) script.now report.status (string_bytes report.text)) }
     ensures status { IfOk result (λ report. (report.status ≡ 0) ⊎ (report.status ≡ 1)) }
 {
@@ -56,16 +76,10 @@ fn run_tests<F: ExtensionFunctionObject>(
     let mut passed = 0usize;
     let mut failed = 0usize;
     for test in &script.tests {
-        let is_ok = run_test(
-            alloc,
-            extensions,
-            &mut told,
-            name,
-            script.set_up.as_slice(),
-            test,
-        )?;
-        passed += usize::from(is_ok);
-        failed += usize::from(!is_ok);
+        let outcome = run_test(alloc, extensions, name, script.set_up.as_slice(), test)?;
+        told.push_str(outcome.text.as_str())?;
+        passed += usize::from(outcome.passed);
+        failed += usize::from(!outcome.passed);
     }
     let summary = format!(in alloc; "{passed} passed, {failed} failed\n")?;
     told.push_str(summary.as_str())?;
@@ -73,8 +87,67 @@ fn run_tests<F: ExtensionFunctionObject>(
     Ok(Report { status, text: told })
 }
 
+/// Runs a test of the script that is named so, in a session of its own over this table, with the program's limit of
+/// depth, which is given the commands before the first test and then those of the test.
+///
+/// It passes where each is answered as is expected: where nothing is, by no refusal, and else by a line that begins with
+/// the words and ends there or goes on behind a space. Where a policy errs in an answer, the words must be the whole line.
+/// Told is `ok   TEST`, or `FAIL TEST` with what was answered otherwise below, why policies err, and that a question that
+/// is answered `open` has no context. A test with a text of more than 1,048,576 bytes fails and doesn't run. Refused for
+/// memory alone.
+pub fn run_test<F: ExtensionFunctionObject>(
+    alloc: Global,
+    extensions: &Extensions<'_, F>,
+    name: &str,
+    set_up: &[Step],
+    test: &Test,
+) -> Result<Outcome, AllocError>
+    ensures { IfOk result (λ outcome. Went (setting_with F.answers extensions.now DEPTH) set_up.now test.now outcome.passed (string_bytes outcome.text)) }
+{
+    let mut text = String::new(alloc);
+    if let Some(step) = long_of(set_up, test.steps.as_slice()) {
+        fail_long(alloc, &mut text, name, test, step)?;
+        return Ok(Outcome {
+            passed: false,
+            text,
+        });
+    }
+    let passed = run_fitting(alloc, extensions, &mut text, name, set_up, test)?;
+    Ok(Outcome { passed, text })
+}
+
+/// The first of these commands whose text is longer than one may be.
+fn long_of<'s>(set_up: &'s [Step], steps: &'s [Step]) -> Option<&'s Step>
+    ensures none { IfNone result (All FitsCommand set_up.now × All FitsCommand steps.now) }
+    ensures some { IfSome result (λ step. (All FitsCommand set_up.now × All FitsCommand steps.now) → ⊥) }
+{
+    match long_among(set_up) {
+        Some(step) => Some(step),
+        None => long_among(steps),
+    }
+}
+
+/// Tells of a test that it fails for the text of this command.
+fn fail_long(
+    alloc: Global,
+    told: &mut String,
+    name: &str,
+    test: &Test,
+    step: &Step,
+) -> Result<(), AllocError>
+    ensures { OnOk result (Adds (TellsTest (string_bytes test.now.name) false) (string_bytes told.old) (string_bytes told.new)) }
+{
+    let long = format!(in alloc;
+        "{name}:{}: the text is longer than 1,048,576 bytes",
+        step.line
+    )?;
+    let mut wrong = String::new(alloc);
+    push_indented(&mut wrong, long.as_str())?;
+    tell_test(told, test.name.as_str(), false, wrong.as_str())
+}
+
 /// Runs a test in a session of its own, tells of it, and answers whether it passed.
-fn run_test<F: ExtensionFunctionObject>(
+fn run_fitting<F: ExtensionFunctionObject>(
     alloc: Global,
     extensions: &Extensions<'_, F>,
     told: &mut String,
@@ -152,6 +225,25 @@ fn run_step<F: ExtensionFunctionObject>(
     if fine {
         return Ok(fine);
     }
-    tell_wrong(alloc, extensions, session, wrong, name, step, &outcome)?;
+    tell_unexpected(alloc, extensions, session, wrong, name, step, &outcome)?;
     Ok(fine)
+}
+
+/// Tells of a command that isn't answered as is expected, and why policies err in its answer.
+fn tell_unexpected<F: ExtensionFunctionObject>(
+    alloc: Global,
+    extensions: &Extensions<'_, F>,
+    session: &Session<'_, '_, F>,
+    wrong: &mut String,
+    name: &str,
+    step: &Step,
+    outcome: &Result<Reply, Refusal>,
+) -> Result<(), AllocError>
+    ensures { OnOk result (Adds AreBelow (string_bytes wrong.old) (string_bytes wrong.new)) }
+{
+    tell_wrong(alloc, extensions, session, wrong, name, step, outcome)?;
+    if let Ok(Reply::Answer(answer)) = outcome {
+        tell_reasons(alloc, session, wrong, answer)?;
+    }
+    Ok(())
 }

@@ -8,13 +8,11 @@ ghost use Rattle.cedar_authoring.specs.StandingWords.{words_of};
 ghost use Rattle.cedar_authoring.specs.Telling.{Adds, AreBelow};
 
 use crate::awaiting::{awaited, listed, push_standing};
-use crate::giving::Source;
 use crate::listing::described;
-use crate::places::{Position, position_in};
+use crate::origins::Origin;
 use crate::telling::{push_indented, tell_line};
 use cedar_evaluator::AuthorizationError;
 use cedar_extensions::evaluation_error::EvaluationError;
-use cedar_names::places::Loc;
 use cedar_policies::policies::Policy;
 use cedar_session::{PartialResponse, PolicyID};
 use cedar_trees::expr::Expr;
@@ -60,7 +58,7 @@ impl<'r> Standing<'r> {
     }
 }
 
-fn is_satisfied(response: &PartialResponse, id: &PolicyID) -> bool
+pub(crate) fn is_satisfied(response: &PartialResponse, id: &PolicyID) -> bool
     ensures { result ≡ is_satisfied response.now id.now }
 {
     response.satisfied_permits.contains_key(id) || response.satisfied_forbids.contains_key(id)
@@ -80,7 +78,10 @@ fn rest_of<'r>(response: &'r PartialResponse, id: &PolicyID) -> Option<&'r Expr>
 }
 
 /// Why the policy of this id errs, if it does.
-fn error_of<'r>(errors: &'r [AuthorizationError], id: &PolicyID) -> Option<&'r EvaluationError>
+pub(crate) fn error_of<'r>(
+    errors: &'r [AuthorizationError],
+    id: &PolicyID,
+) -> Option<&'r EvaluationError>
     ensures { is_some result ≡ is_in id.now (map error_seen errors.now) }
 {
     for failed in errors {
@@ -99,14 +100,14 @@ fn error_of<'r>(errors: &'r [AuthorizationError], id: &PolicyID) -> Option<&'r E
 pub(crate) fn tell_standing(
     alloc: Global,
     told: &mut String,
-    source: Source<'_>,
+    origin: Origin<'_, '_>,
     policy: &Policy,
     standing: Standing<'_>,
     untold: &[&str],
 ) -> Result<(), AllocError>
-    ensures { (response : Response) → words_of standing.entry ≡ standing_words response (policy_id policy.now) → OnOk result (Adds (TellsStanding source.entry.name.now response (policy_id policy.now)) (string_bytes told.old) (string_bytes told.new)) }
+    ensures { (response : Response) → words_of standing.entry ≡ standing_words response (policy_id policy.now) → OnOk result (Adds (TellsStanding origin.entry.name.now response (policy_id policy.now)) (string_bytes told.old) (string_bytes told.new)) }
 {
-    let place = place_in(source, policy.loc());
+    let place = origin.place(policy.loc());
     let what = described(alloc, Some(policy.template()))?;
     let line = format!(in alloc;
         "{} {}{}",
@@ -114,28 +115,21 @@ pub(crate) fn tell_standing(
         what.as_str(),
         standing.words()
     )?;
-    let below = shown(alloc, source, standing, untold)?;
+    let below = shown(alloc, origin, standing, untold)?;
     tell_line(
         alloc,
         told,
-        source.name,
+        origin.name,
         place,
         line.as_str(),
         below.as_str(),
     )
 }
 
-fn place_in(source: Source<'_>, loc: Option<&Loc>) -> Option<Position> {
-    match loc {
-        Some(loc) => Some(position_in(source.text.as_bytes(), loc.start())),
-        None => None,
-    }
-}
-
 /// What is shown below the line of a policy: why it errs, or what is left of it.
 fn shown(
     alloc: Global,
-    source: Source<'_>,
+    origin: Origin<'_, '_>,
     standing: Standing<'_>,
     untold: &[&str],
 ) -> Result<String, AllocError>
@@ -144,18 +138,18 @@ fn shown(
     match standing {
         Standing::Satisfied => Ok(String::new(alloc)),
         Standing::NotSatisfied => Ok(String::new(alloc)),
-        Standing::Errs(error) => why(alloc, source, error),
+        Standing::Errs(error) => why(alloc, origin, error),
         Standing::Open(rest) => left(alloc, rest, untold),
     }
 }
 
 /// Why a policy errs, and where.
-fn why(alloc: Global, source: Source<'_>, error: &EvaluationError) -> Result<String, AllocError>
+fn why(alloc: Global, origin: Origin<'_, '_>, error: &EvaluationError) -> Result<String, AllocError>
     ensures { IfOk result (λ why. AreBelow (string_bytes why)) }
 {
-    let message = match place_in(source, error.source_loc()) {
+    let message = match origin.place(error.source_loc()) {
         None => format!(in alloc; "{error}")?,
-        Some(at) => format!(in alloc; "{}:{}:{}: {error}", source.name, at.line, at.column)?,
+        Some(at) => format!(in alloc; "{}:{}:{}: {error}", origin.name, at.line, at.column)?,
     };
     let mut told = String::new(alloc);
     push_indented(&mut told, message.as_str())?;

@@ -8,5 +8,6 @@ use Rattle.cedar_authoring.proofs.checking.refuse.Goals as goal
 pub returns-clause-told : goal.returns-clause-told
 returns-clause-told c =
     let Tells : Text → Type 0 = TellsOf c.args.name.now c.args.place in
-    let told = from_nothing Tells (string_bytes c.new-told.result) (string_bytes c.tell.new.told) c.new-told.ensures.bytes (c.in_ok-tell.ensures nothing_below) in
+    let new = string_bytes c.tell.new.told in
+    let told = from_nothing Tells (string_bytes c.new-told.result) new c.new-told.ensures.bytes (c.in_ok-tell.ensures nothing_below) in
     subst Tells (sym c.refused.ensures.text) told

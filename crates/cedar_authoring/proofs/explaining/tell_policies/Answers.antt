@@ -1,7 +1,11 @@
--- Of one id more it is told how its policy stands (Standings, Told).
-use Rattle.std.proofs.Common.{string_bytes, arith}
+-- Of one id more it is told what is held under it (Told).
+use Rattle.std.proofs.Common.{subst, string_bytes, arith}
+use Rattle.cedar_held.specs.PolicyWorlds.{policies_in}
+use Rattle.cedar_language.specs.Uid.{Text}
+use Rattle.cedar_session.specs.Sessions.{world_of}
+use Rattle.cedar_world.specs.World.{Policies}
 use Rattle.cedar_authoring.specs.Explaining.{TellsOne}
-use Rattle.cedar_authoring.proofs.Standings.{told_one}
+use Rattle.cedar_authoring.specs.Telling.{Adds}
 use Rattle.cedar_authoring.proofs.Told.{Adds-more}
 use Rattle.cedar_authoring.proofs.explaining.tell_policies.Goals as goal
 
@@ -9,11 +13,12 @@ pub loop-id-preserved : goal.loop-id-preserved
 loop-id-preserved g c =
     let name = c.args.source.name.now in
     let response = c.args.response.now in
-    let policies = c.args.session.now.policies in
+    let policies = (world_of c.args.session.now).policies in
     let id = c.id-item.result in
     let old = string_bytes c.loop-id.told in
     let new = string_bytes c.tell_one.new.told in
+    let P : Text → Policies → Type 0 = λ n ps. Adds (TellsOne n ps response id) old new in
+    let one = c.in_ok-tell_one.ensures c.policies-policies.ensures.slots in
+    let named = subst (λ n. P n (policies_in c.policies-policies.result.now)) c.of-origin.ensures one in
     Adds-more (TellsOne name policies response) c.args.ids.now c.loop-id.id-index id (string_bytes c.args.told.now) old new
-    (omega arith) c.id-item.is c.loop-id.invariant
-    (told_one c.policies-policies.result.now c.policies-policies.ensures.slots c.len-bound.ensures.whole c.policy_sets_are_worlds.ensures.finds policies c.policies-policies.ensures.policies id
-    name response old new c.get.result c.get.ensures.entry c.get.ensures.id c.in_ok-tell_one.ensures.none c.in_ok-tell_one.ensures.some)
+    (omega arith) c.id-item.is c.loop-id.invariant (subst (λ ps. P name ps) c.policies-policies.ensures.policies named)

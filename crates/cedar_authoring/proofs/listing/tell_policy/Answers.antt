@@ -7,7 +7,7 @@ use Rattle.cedar_authoring.proofs.listing.tell_policy.Goals as goal
 pub returns : goal.returns
 returns c =
     let name = c.args.name.now in
-    let place = c.and_then-place.result in
+    let place = c.place_of-place.result in
     let id = c.as_str.result.now in
     let message = c.as_str-3.result.now in
     let more = c.as_str-2.result.now in

@@ -8,8 +8,8 @@ use Rattle.cedar_authoring.proofs.standing.tell_standing.Goals as goal
 
 pub returns : goal.returns
 returns c = λ response words_are.
-    let name = c.args.source.name.now in
-    let place = c.place_in-place.result in
+    let name = c.args.origin.name.now in
+    let place = c.place-place.result in
     let own = policy_id c.args.policy.now in
     let id = c.as_str.result.now in
     let what = c.as_str-2.result.now in

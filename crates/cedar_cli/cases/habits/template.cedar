@@ -1,0 +1,1 @@
+permit(principal == ?principal, action, resource);
