@@ -1,16 +1,18 @@
 #!/usr/bin/env python3
 """Counts the instructions of a question over so many policies, body and answer line included.
 
-    python3 bench/measure_asks.py --program crates/cedar_main/out/cedar_main [CASE..]
+    python3 bench/measure_asks.py --program crates/cedar_main/out/cedar_main [--preload FILE] [CASE..]
 
 A figure is what 120 questions take less what 60 take, by valgrind (`--tool=callgrind`), a question each: counts don't depend on what
-else the machine does. Needs valgrind.
+else the machine does. Needs valgrind. The case `memory` is the most memory of a run that loads 100,000 grants by texts of 10,000.
+
+`--preload FILE` gives each figure a second time, with FILE before the C library (`LD_PRELOAD`): another allocator, as libmimalloc.so.2.
 """
 import argparse
 import re
-import subprocess
 
 from measure import frame
+from measure_store import run
 
 COUNTED = 60
 ASK = '{principal: %s, action: Action::"%s", resource: %s, context: %s}'
@@ -20,9 +22,13 @@ def put(*entities):
     return frame('put', '[' + ', '.join(entities) + ']')
 
 
+def grant_texts(numbers):
+    return ''.join(f'permit(principal in Group::"g{n}", action == Action::"view", resource == Photo::"p{n}");\n' for n in numbers)
+
+
 def grants(count):
     """A grant for each group, on one photo each; a user in each group."""
-    text = ''.join(f'permit(principal in Group::"g{n}", action == Action::"view", resource == Photo::"p{n}");\n' for n in range(count))
+    text = grant_texts(range(count))
     users = put(*(f'{{uid: User::"u{n}", parents: [Group::"g{n}"]}}' for n in range(count)))
     middle = count // 2
     return frame('load', text) + users, ASK % (f'User::"u{middle}"', 'view', f'Photo::"p{middle}"', '{hour: 9}')
@@ -69,24 +75,47 @@ CASES = {
 }
 
 
-def instructions(program, data):
+def answered(command, data, preload):
+    """The memory of a run, in MiB, and what it wrote; each command is answered."""
+    _, memory, said = run(['env', f'LD_PRELOAD={preload}', *command] if preload else command, data)
+    assert 'refused' not in said, 'a command of the case is refused'
+    return memory, said
+
+
+def instructions(program, data, preload):
     counter = ['valgrind', '--tool=callgrind', '--callgrind-out-file=/dev/null', program]
-    done = subprocess.run(counter, input=data, capture_output=True, check=True)
-    assert b'refused' not in done.stdout, 'a command of the case is refused'
-    return int(re.search(rb'Collected : (\d+)', done.stderr)[1])
+    return int(re.search(r'Collected : (\d+)', answered(counter, data, preload)[1])[1])
+
+
+def of_a_question(program, held, question, preload):
+    few, many = (instructions(program, held + frame('ask', question) * count, preload) for count in (COUNTED, 2 * COUNTED))
+    return (many - few) / COUNTED
+
+
+def of_loads(program, preload):
+    """The memory of 100,000 grants that are loaded by texts of 10,000, in MiB."""
+    texts = [grant_texts(range(first, first + 10_000)) for first in range(0, 100_000, 10_000)]
+    return answered([program], b''.join(frame('load', it) for it in texts), preload)[0]
+
+
+def tell(name, measure, preload):
+    print(f'{name}: {measure(None):,.0f}' + (f'; with {preload} {measure(preload):,.0f}' if preload else ''), flush=True)
 
 
 def main():
     words = argparse.ArgumentParser(description=__doc__, formatter_class=argparse.RawDescriptionHelpFormatter)
     words.add_argument('--program', required=True)
-    words.add_argument('cases', nargs='*', choices=[[], *CASES])
+    words.add_argument('--preload')
+    words.add_argument('cases', nargs='*', choices=[[], *CASES, 'memory'])
     given = words.parse_args()
-    for name in given.cases or CASES:
+    for name in given.cases or [*CASES, 'memory']:
+        if name == 'memory':
+            tell('memory, MiB', lambda preload: of_loads(given.program, preload), given.preload)
+            continue
         made, sizes = CASES[name]
         for size in sizes:
             held, question = made(size)
-            few, many = (instructions(given.program, held + frame('ask', question) * count) for count in (COUNTED, 2 * COUNTED))
-            print(f'{name}, {size}: {(many - few) / COUNTED:,.0f}', flush=True)
+            tell(f'{name}, {size}', lambda preload: of_a_question(given.program, held, question, preload), given.preload)
 
 
 if __name__ == '__main__':

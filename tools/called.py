@@ -2,11 +2,10 @@
 """called.py, at the top of the repository: each public function of a library that may be refused is called somewhere.
 
 A contract lets a body give up for want of memory always, so that only a run shows that a call succeeds. A public function whose
-answer is a `Result` has to be reached, by names, from a program (its sessions and runs call it), from the examples or from the
-rows. Names alone are read: a call `.name(..)` reaches each method of that name in the crates below, `Type::name` that of the type,
+answer is a `Result` has to be reached, by names, from a program (its sessions and runs call it), from the examples, from the
+rows or from a crate's own tests. Names alone are read: a call `.name(..)` reaches each method of that name in the crates below, `Type::name` that of the type,
 and `name(..)` the functions of the file and those that it imports; of a type that is reached so are its impls of traits that
-are called without a name. Clauses of contracts call nothing, and laws, which answer nothing, needn't be called;
-nor need those that a caller makes who has more than any program here (UNUSED).
+are called without a name. Clauses of contracts call nothing, and laws, which answer nothing, needn't be called.
 
 Prints a line for each that nothing reaches, and ends with status 1 where there is any."""
 
@@ -18,9 +17,9 @@ import sys
 sys.dont_write_bytecode = True
 import rooms
 
-CALLERS = ["cedar_main", "cedar_cli", "cedar_c", "cedar_examples", "cedar_law_examples", "cedar_rows", "cedar_parser_rows", "cedar_evaluation_rows", "cedar_layer_rows"]
-# A caller makes its table of these who has functions beside Cedar's own; no program here has.
-UNUSED = {("cedar_extension_types", "standard_extensions")}
+CALLERS = ["cedar_main", "cedar_cli", "cedar_c", "cedar_examples", "cedar_type_examples", "cedar_law_examples", "cedar_rows", "cedar_parser_rows", "cedar_evaluation_rows", "cedar_layer_rows"]
+# A crate's own tests, which the gate runs.
+TESTS = "tests.rt"
 # The calls of traits that no text names.
 UNNAMED = set("fmt drop next eq cmp partial_cmp hash clone into_iter from deref as_ref borrow write_str read write flush".split())
 # What isn't code: comments, texts and characters.
@@ -135,7 +134,7 @@ class Sources:
 
     def reached(self):
         self.visible = {it: set(rooms.below(self.rooms, it)) | {it} for it in self.rooms}
-        left, seen = [it for it in self.functions if it.crate in CALLERS], set()
+        left, seen = [it for it in self.functions if it.crate in CALLERS or os.path.basename(it.file) == TESTS], set()
         while left:
             caller = left.pop()
             if caller in seen:
@@ -152,12 +151,12 @@ def uncalled():
     sources = Sources()
     reached = sources.reached()
     for it in sources.functions:
-        if it.is_public and it.is_refusable and it.crate not in CALLERS and (it.crate, it.name) not in UNUSED and it not in reached:
+        if it.is_public and it.is_refusable and it.crate not in CALLERS and it not in reached:
             yield f"{it.file}:{it.line}", f"{it.owner}::{it.name}" if it.owner else it.name
 
 
 def main():
-    faults = [f"{where}: no program, example or row calls `{name}`" for where, name in uncalled()]
+    faults = [f"{where}: no program, example, row or test calls `{name}`" for where, name in uncalled()]
     print("\n".join(faults) if faults else "each public call that may be refused is made somewhere")
     return 1 if faults else 0
 

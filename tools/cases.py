@@ -322,7 +322,7 @@ def beside_frames(command):
     if len(command) == 1:
         yield "(a word behind the program's name)", ended([*command, "word"], given) == (1, b"", b"usage: cedar_session\n")
     else:
-        yield "(a word behind `session`)", ended([*command, "word"], given)[:2] == (2, b"")
+        yield "(a word behind `session`)", ended([*command, "word"], given)[:2] == (64, b"")
     with open("/dev/full", "wb") as full:
         yield "(output that can't be written)", ended(command, given, stdout=full)[0] == 3
     folder = os.open("/", os.O_RDONLY)

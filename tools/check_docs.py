@@ -13,7 +13,7 @@ each crate has a row, whose last cell is what tools/rooms.py finds nearest below
 the pages of docs/ have 20,000 at most, README.md 1,600. A link to a line (`word` of a file, #L12) leads to one with that word on it. Each row of
 docs/THEOREM.md that begins with a law has the figures of tools/trusted_base.py, as README.md does, and nothing in the tree is assumed
 or left open. README.md says that each call that may be refused is shown to succeed: tools/called.py
-finds those that no program, example or row makes.
+finds those that no program, example, row or test makes.
 
 --figures writes the figures of docs/THEOREM.md and README.md again, and the lines to which links lead that have lost their word.
 Prints a line for each that isn't so, and ends with status 1 where there is any."""
@@ -302,7 +302,7 @@ def main():
     words = sum(len(text_of(page).split()) for page in pages if page.startswith("docs/"))
     if words > WHOLE:
         faults.append(f"docs: {words} words, more than {WHOLE}")
-    faults += [f"{where}: no program, example or row calls `{name}`" for where, name in called.uncalled()]
+    faults += [f"{where}: no program, example, row or test calls `{name}`" for where, name in called.uncalled()]
     print("\n".join(faults) if faults else f"{len(pages)} pages name nothing that isn't there")
     return 1 if faults else 0
 

@@ -3,16 +3,20 @@
 
 Each folder of crates/cedar_cli/cases is a run: the program is started there with the words of `args`, one a line, and `stdin`; it
 must write `stdout` and `stderr`, and end with the number in `status` (0 where there is none). The other files are those that the
-words name. `refused.txt` has texts that are refused, each below a line `==== NAME`, and below each text what is told of it: lines
-`> LINE:COLUMN MESSAGE`, and `> expected ..` where tokens are shown (`..` for whichever). The source line and the mark below it are
-made here from the place. Escapes stand for a byte order mark and a tab. docs/POLICIES.md shows scripts, and what they print: each
-is run too. Beside these it tries bytes that are no text, a text that is too long, one that is too deep, and an output that is full.
+words name. `refused.txt` and `told.txt` have texts, each below a line `==== NAME`, with `<TAB>` and the like for characters that can't be
+seen, and behind `> ` what is printed of them, without types where the name begins so. `habits.txt` has lines for a shell, in which `cedar_cli` is the program, over a copy of the
+folder `habits`: below `==== NAME` stand `$ LINE`, what it writes, `! ` before each line of its errors, and `= STATUS` where that isn't 0.
+docs/POLICIES.md shows scripts, and what they print: each is run too. Beside these it tries texts that are too long or too deep, and that
+`check` takes a time that grows as the text does: at most some times that of a session's `load` of the same text, each the best of three.
 
 All is written by hand, from what is promised. Of a program that isn't proved (tools/build.py) the case `version` fails, since that
 program says so. Ends with status 1 where a run goes otherwise."""
 
 import os
 import re
+import resource
+import shlex
+import shutil
 import subprocess
 import sys
 import tempfile
@@ -20,7 +24,10 @@ import tempfile
 CASES = "crates/cedar_cli/cases"
 PAGE = "docs/POLICIES.md"
 SECONDS = 60
-ESCAPES = {"\\ufeff": "\ufeff", "\\t": "\t"}
+# How often the time of a session's load a check of the same text may take; one with faults is read twice, and each is told.
+SLOWER, SLOWER_WITH_FAULTS = 3, 6
+# Characters that texts have by their names.
+CHARACTERS = {"<TAB>": "\t", "<CR>": "\r", "<ESC>": "\x1b", "<NUL>": "\0", "<BEL>": "\a"}
 
 
 def text_of(path, otherwise=""):
@@ -30,17 +37,17 @@ def text_of(path, otherwise=""):
         return it.read()
 
 
-def ran(program, words, given=b"", folder=".", stdout=subprocess.PIPE):
+def ran(program, words, given=b"", folder="."):
     """The status of a run, and what it wrote."""
-    it = subprocess.run([program, *words], input=given, cwd=folder, stdout=stdout, stderr=subprocess.PIPE, timeout=SECONDS)
-    return it.returncode, it.stdout or b"", it.stderr
+    it = subprocess.run([program, *words], input=given, cwd=folder, capture_output=True, timeout=SECONDS)
+    return it.returncode, it.stdout, it.stderr
 
 
 def differs(wanted, got):
     """Where what is written differs from what should be: the first such line."""
     want, have = wanted.split("\n"), got.split("\n")
     for number, (a, b) in enumerate(zip(want, have), 1):
-        if a != b and not (a == "    expected .." and b.startswith("    expected ")):
+        if a != b:
             return f"line {number} is\n    {b}\n  and should be\n    {a}"
     if len(want) != len(have):
         return f"it has {len(have) - 1} lines, and should have {len(want) - 1}"
@@ -58,45 +65,32 @@ def why_not(wanted, got):
     return None
 
 
-# ---- texts that are refused
+# ---- texts
 
 
-def refused_texts():
-    """Each text by its name, with the lines that say what is told."""
-    for block in text_of(f"{CASES}/refused.txt").split("==== ")[1:]:
-        name, *lines = block.rstrip("\n").split("\n")
-        told = [it[2:] for it in lines if it.startswith("> ")]
-        text = "\n".join(it for it in lines if not it.startswith("> "))
-        for escape, stands_for in ESCAPES.items():
-            text = text.replace(escape, stands_for)
-        yield name, text, told
+def texts(file):
+    """Each text of a file by its name, with what is printed of it."""
+    for block in text_of(f"{CASES}/{file}").split("==== ")[1:]:
+        for name, character in CHARACTERS.items():
+            block = block.replace(name, character)
+        name, *lines = block.removesuffix("\n").split("\n")
+        told = "".join(f"{it[2:]}\n" for it in lines if it.startswith("> "))
+        yield name, "\n".join(it for it in lines if not it.startswith("> ")), told
 
 
-def report_of(text, told, name="-"):
-    """What is printed: a line with the place, the source line, a mark, and what was expected."""
-    lines = []
-    for it in told:
-        place = re.match(r"(\d+):(\d+) (.*)", it)
-        if place:
-            line, column = int(place[1]), int(place[2])
-            source = text.split("\n")[line - 1]
-            mark = "".join("\t" if c == "\t" else " " for c in source[: column - 1])
-            lines += [f"{name}:{line}:{column}: {place[3]}", f"    {source}", f"    {mark}^"]
-        else:
-            lines.append(f"    {it}")
-    return "".join(f"{it}\n" for it in lines)
-
-
-def of_refused(program):
-    for name, text, told in refused_texts():
-        yield f"refused: {name}", (1, report_of(text, told), ""), ran(program, ["check"], text.encode())
+def of_texts(program):
+    for file in ("refused.txt", "told.txt"):
+        for name, text, told in texts(file):
+            status = 0 if re.match(r"-:\d+:\d+: policy\d|-: no policies\n", told) else 1
+            words = ["check", "--no-types"] if name.startswith("(no types) ") else ["check"]
+            yield f"{file}: {name}", (status, told, ""), ran(program, words, text.encode())
 
 
 # ---- runs in a folder
 
 
 def of_folders(program):
-    for name in sorted(it for it in os.listdir(CASES) if os.path.isdir(f"{CASES}/{it}")):
+    for name in sorted(it for it in os.listdir(CASES) if os.path.exists(f"{CASES}/{it}/args")):
         folder = f"{CASES}/{name}"
         words = text_of(f"{folder}/args").split("\n")[:-1]
         wanted = (int(text_of(f"{folder}/status", "0")), text_of(f"{folder}/stdout"), text_of(f"{folder}/stderr"))
@@ -123,7 +117,31 @@ def of_page(program):
                 with open(f"{room}/{file[1]}", "w", encoding="utf-8") as it:
                     it.write(block)
             elif command:
-                yield f"{PAGE}: {command[1]}", (status_of(block), block[command.end() :], ""), ran(program, command[1].split(), b"", room)
+                yield f"{PAGE}: {command[1]}", (status_of(block), block[command.end() :], ""), ran(program, shlex.split(command[1]), b"", room)
+
+
+# ---- lines for a shell
+
+
+def habits():
+    """Each line for a shell by its name, with the status, the output and the errors that it has to have."""
+    for block in text_of(f"{CASES}/habits.txt").split("==== ")[1:]:
+        name, line, *told = block.rstrip("\n").split("\n")
+        parts = {mark: "".join(f"{it[2:]}\n" for it in told if it.startswith(mark)) for mark in ("! ", "= ")}
+        output = "".join(f"{it}\n" for it in told if not it.startswith(("! ", "= ")))
+        yield name, line.removeprefix("$ "), (int(parts["= "] or 0), output, parts["! "])
+
+
+def of_habits(program):
+    with tempfile.TemporaryDirectory(prefix="habits-") as room:
+        os.mkdir(f"{room}/bin")
+        os.symlink(program, f"{room}/bin/cedar_cli")
+        environment = {**os.environ, "PATH": f"{room}/bin:{os.environ['PATH']}", "LC_ALL": "C.UTF-8"}
+        for number, (name, line, wanted) in enumerate(habits()):
+            folder = f"{room}/{number}"
+            shutil.copytree(f"{CASES}/habits", folder)
+            it = subprocess.run(["bash", "-c", line], cwd=folder, env=environment, stdin=subprocess.DEVNULL, capture_output=True, timeout=SECONDS)
+            yield f"habits: {name}", wanted, (it.returncode, it.stdout, it.stderr)
 
 
 # ---- what no file shows
@@ -139,36 +157,41 @@ def beside(program):
     for levels, wanted in ((100, (0, "-:1:1: policy0 permit\n", "")), (257, (1, "-: the text is nested too deep\n", ""))):
         deep = b"permit(principal, action, resource) when { " + b"(" * levels + b"true" + b")" * levels + b" };"
         yield f"({levels} brackets)", wanted, ran(program, ["check"], deep)
-    with open("/dev/full", "wb") as full:
-        yield "(output that can't be written)", (3, "", ""), ran(program, ["check"], fine, stdout=full)
-    explained = ["explain", f"{CASES}/explain-allow/staff.cedar", f"{CASES}/explain-allow/people.entities", f"{CASES}/explain-allow/question"]
-    with open("/dev/full", "wb") as full:
-        yield "(an explanation that can't be written)", (5, "", ""), ran(program, explained, stdout=full)
-    got = ran(program, ["check", "nothing.cedar"])
-    yield "(a file that isn't there)", (3, "", got[2].decode()), got
-    got = ran(program, ["test", "/"])
-    yield "(a folder)", (3, "", got[2].decode()), got
-    yield "(a word that is no UTF-8)", (2, "", usage(program)), ran(program, [b"check", b"\xff"])
-    line = b"permit(principal, action, resource);\n"
-    with tempfile.TemporaryDirectory(prefix="body-") as room:
-        with open(f"{room}/long", "wb") as it:
-            it.write(b" " * 1_048_577)
-        long = (1, f"{room}/long: the text is longer than 1,048,576 bytes\n", "")
-        yield "(a question too long)", long, ran(program, [*explained[:3], f"{room}/long"])
-        with open(f"{room}/deep", "wb") as it:
-            it.write(b"[" * 257 + b"]" * 257)
-        deep = (1, f"{room}/deep: the text is nested too deep\n", "")
-        yield "(entities too deep)", deep, ran(program, [*explained[:2], f"{room}/deep", explained[3]])
+    explained = ["explain", f"{CASES}/explain-allow/staff.cedar", f"{CASES}/explain-allow/people.entities"]
+    long = (1, "-: the text is longer than 1,048,576 bytes\n", "")
+    yield "(a question too long)", long, ran(program, [*explained, "-"], b" " * 1_048_577)
+    deep = (1, "-: the text is nested too deep\n", "")
+    yield "(entities too deep)", deep, ran(program, [*explained[:2], "-", f"{CASES}/explain-allow/question"], b"[" * 257 + b"]" * 257)
     with tempfile.TemporaryDirectory(prefix="long-") as room:
-        with open(f"{room}/long.tests", "wb") as it:
-            it.write(b"test a\nload < long.cedar\n")
-        with open(f"{room}/long.cedar", "wb") as it:
-            it.write(line * 40_000)
-        yield "(a script with a text too long)", (2, "long.tests:2: the text is longer than 1,048,576 bytes\n", ""), ran(program, ["test", "long.tests"], b"", room)
+        for name, text in (("long.tests", b"test a\nload < long.cedar\n"), ("long.cedar", b"permit(principal, action, resource);\n" * 40_000)):
+            with open(f"{room}/{name}", "wb") as it:
+                it.write(text)
+        long = (2, "long.tests:2: the text is longer than 1,048,576 bytes\n", "")
+        yield "(a script with a text too long)", long, ran(program, ["test", "long.tests"], b"", room)
 
 
-def usage(program):
-    return ran(program, [])[2].decode()
+# ---- time
+
+
+def processor_seconds(program, words, given):
+    """What a run takes of a processor, at the best of three."""
+    taken = []
+    for _ in range(3):
+        before = resource.getrusage(resource.RUSAGE_CHILDREN)
+        ran(program, words, given)
+        after = resource.getrusage(resource.RUSAGE_CHILDREN)
+        taken.append(after.ru_utime + after.ru_stime - before.ru_utime - before.ru_stime)
+    return min(taken)
+
+
+def of_times(program):
+    grants = "".join(f'permit(principal == User::"u{n}", action == Action::"a", resource == Doc::"d{n}");\n' for n in range(12_000))
+    faults = 'permit(principal, action, resource) when { a = 1 };\n' * 5_000
+    for name, text, slower in (("12,000 policies", grants.encode(), SLOWER), ("5,000 faults", faults.encode(), SLOWER_WITH_FAULTS)):
+        loaded = processor_seconds(program, ["session"], b"load %d\n%s\n" % (len(text), text))
+        checked = processor_seconds(program, ["check"], text)
+        why = "" if checked <= slower * loaded else f"check took {checked:.2f} processor seconds, and the load of the same text {loaded:.2f}\n"
+        yield f"({name}: the time of check)", (0, "", ""), (0, why.encode(), b"")
 
 
 def main():
@@ -179,7 +202,7 @@ def main():
     if not os.access(program, os.X_OK):
         sys.exit(f"there is no program {words[1]}; `rt run` in crates/cedar_cli leaves one at crates/cedar_cli/out/cedar_cli, and tools/build.py one without a proof")
     passed = failed = 0
-    for tried in (of_refused, of_folders, of_page, beside):
+    for tried in (of_texts, of_folders, of_habits, of_page, beside, of_times):
         for name, wanted, got in tried(program):
             if words[2:] and name not in words[2:]:
                 continue

@@ -8,7 +8,8 @@ begins with '$' is a command with its whole output, whose status tools/cli_cases
 those of docs/POLICIES.md, are one shell's, in a clone of their own; all shells run side by side. Blocks that prove ('rt ci', by four
 spaces) are no such blocks.
 
-Four programs are built, so it takes minutes, and the gate doesn't run it. Ends with status 1 where anything goes otherwise."""
+Four programs are built, so it takes minutes, and the gate doesn't run it. Ends with status 1 where anything goes otherwise, or where all
+takes the machine's processors more than ten minutes."""
 
 import concurrent.futures
 import os
@@ -27,6 +28,7 @@ FILE = re.compile(r"(?://|#) (\S+\.(?:cedar|tests|entities|question))\b")
 WRITES = re.compile(r"(?ms)\A\s*It writes\n\n```\n(.*?)^```")
 PRINTS = re.compile(r"\A\s*It prints `([^`]+)`")
 SECONDS = 3600
+LONGEST = 600
 MARK = "\x1e"
 
 
@@ -121,7 +123,9 @@ def main():
         done = list(pool.map(lambda it: tried(*it, room), shells))
     faults = [it for _, found in done for it in found]
     processor = sum(os.times()[2:4]) - sum(used[2:4])
-    print("\n".join([*faults, f"{sum(it for it, _ in done) - len(faults)} passed, {len(faults)} failed; {processor:.0f} processor seconds"]))
+    if processor > LONGEST * os.cpu_count():
+        faults.append(f"it takes {processor:.0f} processor seconds, more than {LONGEST} seconds of {os.cpu_count()} processors")
+    print("\n".join([*faults, f"{sum(it - len(found) for it, found in done)} passed, {len(faults)} failed; {processor:.0f} processor seconds"]))
     return 1 if faults else 0
 
 
