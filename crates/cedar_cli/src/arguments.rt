@@ -2,7 +2,7 @@
 
 use crate::nearest::Nearest;
 use crate::pages;
-use crate::words::{Choice, FLAGS, Flag, Task, WORDS, WORDS_OF_OTHERS, Word};
+use crate::words::{Choice, FLAGS, Flag, NAMES_OF_WORDS, Task, WORDS, WORDS_OF_OTHERS, Word};
 use std::alloc::{AllocError, Global};
 use std::fmt;
 use thiserror::Error;
@@ -38,8 +38,8 @@ pub(crate) struct Options<'a> {
 /// Why a command line asks for nothing.
 #[derive(Debug, Drop, Error)]
 pub(crate) enum Fault<'a> {
-    #[error("no word says what to do: check, test, explain or session")]
-    NoWord,
+    #[error("no word says what to do: {0}")]
+    NoWord(&'static str),
     #[error("unknown word {0}{1}")]
     UnknownWord(&'a str, Meant),
     #[error("unknown option {0}{1}")]
@@ -50,7 +50,7 @@ pub(crate) enum Fault<'a> {
     Value(&'static str),
     #[error("option {0} stands twice")]
     Twice(&'static str),
-    #[error("option --list runs no test, so {0} has nothing to tell")]
+    #[error("option --list runs no tests, so {0} has nothing to tell")]
     ListWith(&'static str),
     #[error("no file is named")]
     NoFile,
@@ -257,7 +257,7 @@ impl<'a> Reader<'a> {
                 operands: self.operands,
             })),
             None if self.helping => Ok(Asked::Page(pages::WHOLE)),
-            None => Err(self.refuse(Fault::NoWord)),
+            None => Err(self.refuse(Fault::NoWord(NAMES_OF_WORDS))),
         }
     }
 

@@ -115,6 +115,9 @@ const FLAGS_OF_TEST: &[Flag] = &[
     },
 ];
 
+/// What the words are called, for who gave none.
+pub(crate) const NAMES_OF_WORDS: &str = "check, test, explain or session";
+
 pub(crate) const WORDS: &[Word] = &[
     Word {
         name: "check",
