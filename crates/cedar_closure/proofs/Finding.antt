@@ -12,7 +12,7 @@ use Rattle.cedar_closure.specs.declared.closing.Reached.{Reached}
 use Rattle.cedar_closure.proofs.Members.{or_more, or_else, or_none, member_at, member_alike, list_any-at}
 use Rattle.cedar_closure.proofs.Search.{IsEdge, AreAlike, Reaches-first}
 
-and_both : (a b : Bool) → a ≡ true → b ≡ true → (a && b) ≡ true
+pub and_both : (a b : Bool) → a ≡ true → b ≡ true → (a && b) ≡ true
 and_both a b e f = ap (λ c. c && b) e ∙ f
 
 module _ {K : Type 0} (eq : K → K → Bool) (next : K → List K) where

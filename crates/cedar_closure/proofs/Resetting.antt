@@ -1,12 +1,14 @@
 -- Nodes that are left their direct edges in turn, and what is left where that stops.
-use Rattle.std.proofs.Common.{◌≡◌, ◌⊎◌, inl, inr, Bool, true, false, ◌||◌, List, [], ◌∷◌, Option, None, Some, MatchOption, IsTrue, refl, sym, ap, ◌∙◌, true≢false}
+use Rattle.std.proofs.Common.{◌≡◌, ◌⊎◌, inl, inr, Bool, true, false, ◌||◌, ◌&&◌, List, [], ◌∷◌, Option, None, Some, MatchOption, IsTrue, ◌↔◌, refl, sym, ap, ◌∙◌, true≢false}
 use Rattle.std.specs.Option.{option_map_or, IsSomeAnd, is_some}
 use Rattle.std.specs.Cmp.{IsEquivalence}
 use Rattle.std.specs.Set.{is_member}
-use Rattle.cedar_language.specs.Facts.{Reaches, edge, further}
-use Rattle.cedar_closure.specs.Graph.{SameKeys, SameNodes, IsBetween, IsBuiltBeside, IsClosedBeside, edges_at}
-use Rattle.cedar_closure.proofs.Members.{member_alike}
-use Rattle.cedar_closure.proofs.Search.{IsEdge, Reaches-more, Reaches-joined}
+use Rattle.cedar_language.specs.Facts.{Reaches, edge}
+use Rattle.cedar_closure.specs.Graph.{SameKeys, SameNodes, IsBetween, IsBuiltBeside, edges_at}
+use Rattle.std.proofs.lemmas.Bool.{or_cases, and_parts}
+use Rattle.cedar_closure.proofs.Finding.{and_both}
+use Rattle.cedar_closure.proofs.Members.{member_alike, or_more, or_else}
+use Rattle.cedar_closure.proofs.Search.{IsEdge, Reaches-more, Reaches-first}
 
 module _ {V : Type 0} (Same : V → V → Type 0) where
   abbrev pub IsSameIn : Option V → Option V → Type 0
@@ -97,6 +99,13 @@ module _ {K : Type 0} (eq : K → K → Bool) (D E F : K → List K) where
     most = λ a b h. inr (Reaches-more (λ x y k. sym (reset x y) ∙ k) (between.most a b h));
   }
 
+-- nothing was changed
+pub partly_untouched : {K : Type 0} (eq : K → K → Bool) (D E : K → List K) → IsPartlyRebuilt eq D E E
+partly_untouched eq D E = record {
+  least = λ a b h. h.1;
+  most = λ a b h. inl h;
+}
+
 -- M: the edges once the listed nodes were reset; the others had just what their direct edges reach
 module _ {K : Type 0} (eq : K → K → Bool) (D E M : K → List K) (listed : List K)
     (beside : IsBuiltBeside eq listed (IsEdge eq D) (IsEdge eq E))
@@ -114,19 +123,41 @@ module _ {K : Type 0} (eq : K → K → Bool) (D E M : K → List K) (listed : L
     | false ↦ λ l. ap (λ ys. is_member eq ys b) (others a l) ∙ (beside a b l).1 (edge h)
   ] refl
 
-  -- what is left leads just where direct edges do
-  pub along_direct : {a b : K} → Reaches (IsEdge eq M) a b → Reaches (IsEdge eq D) a b
-  along_direct (edge {a} {b} h) = left_edge a b h
-  along_direct (further {a} {b} h r) = Reaches-joined (left_edge a b h) (along_direct r)
+  module _ (F : K → List K) (has_node : K → Bool) (found : K → K → Bool)
+      (sound : (a q : K) → IsTrue (found a q) → IsTrue (is_member eq listed a) × Reaches (IsEdge eq D) a q) where
+    reached_still : (a b : K) → IsTrue (is_member eq (M a) b || (has_node a && found a b)) → Reaches (IsEdge eq D) a b
+    reached_still a b h = elim (or_cases (is_member eq (M a) b) (has_node a && found a b) h) [
+      | inl k ↦ left_edge a b k
+      | inr k ↦ (sound a b (and_parts (has_node a) (found a b) k).1).1
+    ]
 
-  pub along_left : {a b : K} → Reaches (IsEdge eq D) a b → Reaches (IsEdge eq M) a b
-  along_left r = Reaches-more direct_left r
+    -- with what was found from the listed nodes the edges are what direct ones reach
+    pub rebuilt : ((a q : K) → IsTrue (is_member eq listed a) → Reaches (IsEdge eq D) a q → IsTrue (found a q))
+        → ((a q : K) → IsEdge eq D a q → IsTrue (has_node a))
+        → ((a q : K) → is_member eq (F a) q ≡ (is_member eq (M a) q || (has_node a && found a q)))
+        → (a b : K) → IsEdge eq F a b ↔ Reaches (IsEdge eq D) a b
+    rebuilt whole begins added a b = (
+      λ h. reached_still a b (sym (added a b) ∙ h),
+      λ r. elim (is_member eq listed a) as (λ l. is_member eq listed a ≡ l → IsEdge eq F a b) [
+        | true ↦ λ l. let first = Reaches-first r in added a b ∙ or_else (is_member eq (M a) b) _ (and_both _ _ (begins a first.0 first.1) (whole a b l r))
+        | false ↦ λ l. added a b ∙ or_more _ _ (ap (λ ys. is_member eq ys b) (others a l) ∙ (beside a b l).1 r)
+      ] refl,
+    )
 
-  pub closed_beside : IsClosedBeside eq listed (IsEdge eq M)
-  closed_beside a b l r = ap (λ ys. is_member eq ys b) (others a l) ∙ (beside a b l).1 (along_direct r)
+    -- and so with some of it, where the others have what they had
+    module _ (between : IsBetween (IsEdge eq M) (λ a q. IsTrue (is_member eq (M a) q || (has_node a && found a q))) (IsEdge eq F)) where
+      pub partly_rebuilt : IsPartlyRebuilt eq D E F
+      partly_rebuilt = record {
+        least = λ a b h. between.least a b (direct_left a b h.0);
+        most = λ a b h. inr (reached_still a b (between.most a b h));
+      }
 
-  pub partly_repaired : (F : K → List K) → IsBetween (IsEdge eq M) (Reaches (IsEdge eq M)) (IsEdge eq F) → IsPartlyRebuilt eq D E F
-  partly_repaired F between = record {
-    least = λ a b h. between.least a b (direct_left a b h.0);
-    most = λ a b h. inr (along_direct (between.most a b h));
-  }
+      pub others_kept : (a b : K) → is_member eq listed a ≡ false → IsEdge eq F a b ↔ IsEdge eq E a b
+      others_kept a b none =
+          let same : is_member eq (M a) b ≡ is_member eq (E a) b = ap (λ ys. is_member eq ys b) (others a none) in (
+            λ h. elim (or_cases (is_member eq (M a) b) (has_node a && found a b) (between.most a b h)) [
+              | inl k ↦ sym same ∙ k
+              | inr k ↦ absurd (true≢false (sym (sound a b (and_parts (has_node a) (found a b) k).1).0 ∙ none))
+            ],
+            λ h. between.least a b (same ∙ h),
+          )

@@ -1,5 +1,5 @@
 -- A graph by the node that is found at each key. `eq` says which keys are one, and `edges` to which keys edges lead from a node.
-use Rattle.std.specs.Prelude.{Bool, false, ◌||◌, ◌&&◌, List, [], IsTrue, ◌≡◌, ◌↔◌}
+use Rattle.std.specs.Prelude.{Bool, false, cond, ◌||◌, ◌&&◌, List, [], IsTrue, ◌≡◌, ◌↔◌}
 use Rattle.std.specs.Option.{option_map_or, MatchOption, IsSomeAnd, is_some}
 use Rattle.std.specs.declared.option.Option.{Option}
 use Rattle.std.specs.declared.option.Option.TheVariants.{None}
@@ -28,6 +28,11 @@ module _ {K V : Type 0} (edges : V → List K) where
   -- where the edges of the node at k lead; nowhere, if there is no node
   abbrev pub edges_at : (K → Option V) → K → List K
   edges_at found k = option_map_or edges (found k) []
+
+module _ {K V : Type 0} (direct edges : V → List K) where
+  -- the direct ones of a node's edges, or all
+  abbrev pub edges_of : Bool → V → List K
+  edges_of only_direct v = cond only_direct (direct v) (edges v)
 
 module _ {K V : Type 0} (eq : K → K → Bool) (edges : V → List K) where
   -- an edge leads from the node at a to b

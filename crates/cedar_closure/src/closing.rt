@@ -1,7 +1,7 @@
 //! Adding the edges that a transitive closure has.
 ghost use Rattle.std.specs.Prelude.{◌≡◌, ◌↔◌, ◌||◌, ◌&&◌, false, ◌++◌, IfOk, OnOk, IfErr, OnErr, IfSome, IfNone, IsTrue, is_some};
 ghost use Rattle.std.specs.Set.{is_member, ClonesAreEqual};
-ghost use Rattle.cedar_closure.specs.Graph.{edges_at, HasEdge, SameKeys, SameNodes, IsBetween, IsClosedBeside};
+ghost use Rattle.cedar_closure.specs.Graph.{edges_at, edges_of, HasEdge, SameKeys, SameNodes, IsBetween, IsClosedBeside};
 ghost use Rattle.cedar_language.specs.Facts.{Reaches};
 ghost use Rattle.cedar_closure.specs.Found.{finds};
 ghost use Rattle.cedar_closure.specs.Refused.{IsTcRefusal};
@@ -14,28 +14,29 @@ use crate::reaching::reached_by_each;
 use std::alloc::{AllocError, Global};
 use std::hash::Hash;
 
-// A key, and the keys that it reaches.
+/// A key, and the keys that it reaches.
 #[derive(Drop)]
-struct Reached<K> {
+pub(crate) struct Reached<K> {
     from: K,
     keys: Vec<K>,
 }
 
-// The keys that each of the listed ones reaches.
-fn reached_from_each<K: Eq + Hash + Clone + Drop, V: TCNode<K>, G: TCGraph<K, V>>(
+/// The keys that each of the listed ones reaches, by direct edges alone where it is `only_direct`.
+pub(crate) fn reached_from_each<K: Eq + Hash + Clone + Drop, V: TCNode<K>, G: TCGraph<K, V>>(
     alloc: Global,
     nodes: &G,
     listed: &[K],
+    only_direct: bool,
 ) -> Result<Vec<Reached<K>>, AllocError>
     requires { ClonesAreEqual K.eq K.is_clone }
     ensures sound { IfOk result (λ all. (a q : K) → IsTrue (finds K.eq all.items a q) →
-        IsTrue (is_member K.eq listed.now a) × Reaches (HasEdge K.eq V.edges (G.found nodes.now)) a q) }
+        IsTrue (is_member K.eq listed.now a) × Reaches (HasEdge K.eq (edges_of V.direct V.edges only_direct) (G.found nodes.now)) a q) }
     ensures whole { IfOk result (λ all. (a q : K) → IsTrue (is_member K.eq listed.now a) →
-        Reaches (HasEdge K.eq V.edges (G.found nodes.now)) a q → IsTrue (finds K.eq all.items a q)) }
+        Reaches (HasEdge K.eq (edges_of V.direct V.edges only_direct) (G.found nodes.now)) a q → IsTrue (finds K.eq all.items a q)) }
 {
     let first = each_once(alloc, listed)?;
     let count = first.len();
-    let numbering = number_reached(alloc, nodes, first)?;
+    let numbering = number_reached(alloc, nodes, first, only_direct)?;
     let rows = reached_by_each(alloc, &numbering.edges, count)?;
     let mut all = Vec::new(alloc);
     for number in 0..count {
@@ -46,8 +47,8 @@ fn reached_from_each<K: Eq + Hash + Clone + Drop, V: TCNode<K>, G: TCGraph<K, V>
     Ok(all)
 }
 
-// A key that reaches itself, if there is one.
-fn find_cycle<K: Eq + Hash>(all: &[Reached<K>]) -> Option<&K>
+/// A key that reaches itself, if there is one.
+pub(crate) fn find_cycle<K: Eq + Hash>(all: &[Reached<K>]) -> Option<&K>
     ensures found { IfSome result (λ k. IsTrue (finds K.eq all.now k.now k.now)) }
     ensures none { IfNone result ((a : K) → finds K.eq all.now a a ≡ false) }
 {
@@ -59,8 +60,8 @@ fn find_cycle<K: Eq + Hash>(all: &[Reached<K>]) -> Option<&K>
     None
 }
 
-// Adds what was found at each node.
-fn add_all<K: Eq + Drop, V: TCNode<K>, G: TCGraph<K, V>>(
+/// Adds what was found at each node. Refused where memory runs out; some of it may then be added.
+pub(crate) fn add_all<K: Eq + Drop, V: TCNode<K>, G: TCGraph<K, V>>(
     nodes: &mut G,
     all: Vec<Reached<K>>,
 ) -> Result<(), AllocError>
@@ -154,7 +155,7 @@ pub fn repair_tc<K: Eq + Hash + Clone + Drop, V: TCNode<K>, G: TCGraph<K, V>>(
         (λ k. IsTrue (is_member K.eq keys_to_fix.now k) × Reaches (HasEdge K.eq V.edges (G.found nodes.old)) k k)) }
     ensures same { SameNodes V.is_same (G.found nodes.old) (G.found nodes.new) }
 {
-    let all = reached_from_each(alloc, nodes, keys_to_fix)?;
+    let all = reached_from_each(alloc, nodes, keys_to_fix, false)?;
     if enforce_dag {
         if let Some(on_cycle) = find_cycle(&all) {
             return Err(TcError::HasCycle(HasCycle {

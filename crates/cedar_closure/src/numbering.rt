@@ -3,7 +3,7 @@ ghost use Rattle.std.specs.Prelude.{◌≡◌, ℕ, List, ◌∷◌, [], ◌++�
 ghost use Rattle.std.specs.List.{slice_get};
 ghost use Rattle.std.specs.Set.{is_member, ClonesAreEqual, IsUnion};
 ghost use Rattle.std.specs.Map.Iter.{deref};
-ghost use Rattle.cedar_closure.specs.Graph.{edges_at};
+ghost use Rattle.cedar_closure.specs.Graph.{edges_at, edges_of, SameKeys};
 ghost use Rattle.cedar_closure.specs.Keys.{digest, IsFound};
 ghost use Rattle.cedar_closure.specs.Numbering.{stands_for, is_numbered, AreNumbersOf, IsNumbering};
 
@@ -42,24 +42,42 @@ fn numbers_of<K: Eq + Hash + Clone + Drop>(
     Ok(numbers)
 }
 
+// The keys to which edges lead from a node, or its direct ones alone.
+fn targets_of<K: Eq, V: TCNode<K>>(
+    alloc: Global,
+    node: &V,
+    only_direct: bool,
+) -> Result<Vec<&K>, AllocError>
+    ensures { IfOk result (λ targets. SameKeys K.eq (edges_of V.direct V.edges only_direct node.now) (map deref targets.items)) }
+{
+    if only_direct {
+        node.direct_edges(alloc)
+    } else {
+        node.out_edges(alloc)
+    }
+}
+
 // The numbers of the keys to which edges lead from the node at a key, where it has one.
 fn numbers_from<K: Eq + Hash + Clone + Drop, V: TCNode<K>, G: TCGraph<K, V>>(
     alloc: Global,
     keys: &mut FoundKeys<K>,
     nodes: &G,
     at: &K,
+    only_direct: bool,
 ) -> Result<Vec<usize>, AllocError>
     requires clones { ClonesAreEqual K.eq K.is_clone }
     requires found { IsFound K.eq (λ x. digest (K.hash_input x)) keys.old.keys.items keys.old.numbers }
     ensures found { OnOk result (IsFound K.eq (λ x. digest (K.hash_input x)) keys.new.keys.items keys.new.numbers) }
-    ensures numbers { IfOk result (λ numbers. AreNumbersOf K.eq keys.new.keys.items numbers.items (edges_at V.edges (G.found nodes.now) at.now)) }
+    ensures numbers { IfOk result (λ numbers. AreNumbersOf K.eq keys.new.keys.items numbers.items
+        (edges_at (edges_of V.direct V.edges only_direct) (G.found nodes.now) at.now)) }
     ensures below { IfOk result (λ numbers. (i : ℕ) → IsTrue (is_member nat_eq numbers.items i) → i < length keys.new.keys.items) }
-    ensures union { OnOk result (IsUnion K.eq keys.old.keys.items (edges_at V.edges (G.found nodes.now) at.now) keys.new.keys.items) }
+    ensures union { OnOk result (IsUnion K.eq keys.old.keys.items
+        (edges_at (edges_of V.direct V.edges only_direct) (G.found nodes.now) at.now) keys.new.keys.items) }
     ensures behind { OnOk result ((more : List K) × (keys.new.keys.items ≡ keys.old.keys.items ++ more)) }
 {
     match nodes.find_node(at) {
         Some(node) => {
-            let targets = node.out_edges(alloc)?;
+            let targets = targets_of(alloc, node, only_direct)?;
             numbers_of(alloc, keys, &targets)
         }
         None => Ok(Vec::new(alloc)),
@@ -82,24 +100,27 @@ pub(crate) fn each_once<K: Eq + Hash + Clone + Drop>(
     Ok(keys)
 }
 
-/// Numbers all that the keys reach, behind the keys themselves. It looks at the edges of each of them once.
+/// Numbers all that the keys reach, by direct edges alone where it is `only_direct`, behind the keys themselves. It
+/// looks at the edges of each of them once.
 /// Refused where memory runs out.
 pub(crate) fn number_reached<K: Eq + Hash + Clone + Drop, V: TCNode<K>, G: TCGraph<K, V>>(
     alloc: Global,
     nodes: &G,
     first: FoundKeys<K>,
+    only_direct: bool,
 ) -> Result<Numbering<K>, AllocError>
     requires clones { ClonesAreEqual K.eq K.is_clone }
     requires found { IsFound K.eq (λ x. digest (K.hash_input x)) first.keys.items first.numbers }
     ensures { IfOk result (λ made.
-        IsNumbering K.eq (edges_at V.edges (G.found nodes.now)) first.keys.items made.keys.items made.edges.items) }
+        IsNumbering K.eq (edges_at (edges_of V.direct V.edges only_direct) (G.found nodes.now))
+        first.keys.items made.keys.items made.edges.items) }
 {
     let mut keys = first;
     let mut edges = Vec::new(alloc);
     let mut numbered = 0;
     while numbered < keys.len() {
         let at = keys.key(numbered).clone()?;
-        let numbers = numbers_from(alloc, &mut keys, nodes, &at)?;
+        let numbers = numbers_from(alloc, &mut keys, nodes, &at, only_direct)?;
         edges.push(numbers)?;
         numbered += 1;
     }

@@ -1,6 +1,8 @@
 //! Sets of numbers.
 ghost use Rattle.std.specs.Prelude.{◌≡◌, ℕ, List, [], ◌∷◌, ◌++◌, length, not, ◌<◌, nat_eq, IfOk, OnOk, IsTrue, Some};
 ghost use Rattle.std.specs.List.{slice_get};
+ghost use Rattle.std.specs.List.Sorted.{IsSorted};
+ghost use Rattle.std.specs.Ordering.{nat_cmp};
 ghost use Rattle.std.specs.Set.{is_member, IsUnion};
 ghost use Rattle.cedar_closure.specs.Numbers.{IsSet};
 
@@ -44,11 +46,14 @@ impl NumberSet {
         self.members[index]
     }
 
-    /// The members, in the order in which they came.
-    pub(crate) fn listed(&self, alloc: Global) -> Result<Vec<usize>, AllocError>
-        ensures { IfOk result (λ all. all.items ≡ self.now.members.items) }
+    /// The members, each below the next.
+    pub(crate) fn sorted(&self, alloc: Global) -> Result<Vec<usize>, AllocError>
+        ensures listed { IfOk result (λ all. (q : ℕ) → is_member nat_eq all.items q ≡ is_member nat_eq self.now.members.items q) }
+        ensures sorted { IfOk result (λ all. IsSorted nat_cmp all.items) }
     {
-        Vec::from_slice(alloc, &self.members)
+        let mut all = Vec::from_slice(alloc, &self.members)?;
+        all.sort()?;
+        Ok(all)
     }
 
     /// Puts a number behind the others, where it isn't a member. Answers whether it was none.

@@ -144,7 +144,7 @@ pub(crate) fn reached_by_each(
     for index in 0..order.len() {
         let number = order.member(index);
         search.find_reached(&rows, number)?;
-        rows.set(number, search.found.listed(alloc)?);
+        rows.set(number, search.found.sorted(alloc)?);
         search.found.clear();
     }
     Ok(rows.rows)

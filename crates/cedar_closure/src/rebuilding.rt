@@ -5,8 +5,8 @@ ghost use Rattle.cedar_closure.specs.Graph.{edges_at, HasEdge, SameKeys, SameNod
 ghost use Rattle.cedar_language.specs.Facts.{Reaches};
 ghost use Rattle.cedar_closure.specs.Refused.{IsTcRefusal};
 
-use crate::closing::{compute_tc, keys_of, repair_tc};
-use crate::errors::TcError;
+use crate::closing::{add_all, compute_tc, find_cycle, keys_of, reached_from_each};
+use crate::errors::{HasCycle, TcError};
 use crate::graphs::TCGraph;
 use crate::nodes::TCNode;
 use std::alloc::{AllocError, Global};
@@ -66,6 +66,7 @@ pub fn rebuild_tc<K: Eq + Hash + Clone + Drop, V: TCNode<K>, G: TCGraph<K, V>>(
 /// included, and no other edge. Every other node has to have just these edges before, and then every node does.
 /// Where `enforce_dag`, it is refused if direct edges lead from one of the keys back to it.
 ///
+/// It looks once at the direct edges of the keys and of what they reach.
 /// `HasCycle` names such a key; refused otherwise only where memory runs out.
 /// A refused call leaves the nodes with the direct ones of their edges, and perhaps some of the others and of those
 /// that were to be added; the nodes at other keys it leaves as they were.
@@ -91,9 +92,15 @@ pub fn rebuild_tc_at<K: Eq + Hash + Clone + Drop, V: TCNode<K>, G: TCGraph<K, V>
         (λ k. IsTrue (is_member K.eq keys.now k) × Reaches (HasEdge K.eq V.direct (G.found nodes.old)) k k)) }
     ensures same { SameNodes V.is_same (G.found nodes.old) (G.found nodes.new) }
 {
-    reset_all(nodes, keys)?;
-    match repair_tc(alloc, nodes, keys, enforce_dag) {
-        Ok(()) => Ok(()),
-        Err(refusal) => Err(refusal),
+    let all = reached_from_each(alloc, nodes, keys, true)?;
+    if enforce_dag {
+        if let Some(on_cycle) = find_cycle(&all) {
+            return Err(TcError::HasCycle(HasCycle {
+                vertex_with_loop: on_cycle.clone()?,
+            }));
+        }
     }
+    reset_all(nodes, keys)?;
+    add_all(nodes, all)?;
+    Ok(())
 }

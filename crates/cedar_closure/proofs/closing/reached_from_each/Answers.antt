@@ -4,7 +4,7 @@ use Rattle.std.proofs.Math.ListN.{drop_of_length-le}
 use Rattle.std.specs.Set.{is_member}
 use Rattle.std.proofs.lemmas.Bool.{or_cases}
 use Rattle.std.proofs.lemmas.Option.{slice_get_read}
-use Rattle.cedar_closure.specs.Graph.{edges_at}
+use Rattle.cedar_closure.specs.Graph.{edges_at, edges_of}
 use Rattle.cedar_closure.specs.Found.{finds}
 use Rattle.cedar_closure.specs.Numbers.{AreReached}
 use Rattle.cedar_closure.specs.Numbering.{is_numbered}
@@ -30,7 +30,7 @@ pub loop-number-preserved : goal.loop-number-preserved
 loop-number-preserved g c =
     let eq = g.K.PartialEq.eq in
     let laws = g.met.K.Eq.laws in
-    let node = g.V.TCNode.edges in
+    let node = edges_of g.V.TCNode.direct g.V.TCNode.edges c.args.only_direct in
     let next = edges_at node (g.G.TCGraph.found c.args.nodes.now) in
     let same = edges_alike node (g.G.TCGraph.found c.args.nodes.now) eq (g.met.G.TCGraph.alike c.args.nodes.now) in
     let num = c.in_ok-numbering.ensures in

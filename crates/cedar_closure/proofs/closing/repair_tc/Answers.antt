@@ -1,5 +1,5 @@
 -- What was found is what the keys reach (Finding), and clones of a key stand for it.
-use Rattle.std.proofs.Common.{IsTrue, refl, sym, ◌∙◌, subst}
+use Rattle.std.proofs.Common.{IsTrue, refl, sym, ap, ◌∙◌, subst, true≢false}
 use Rattle.std.specs.Option.{is_some}
 use Rattle.cedar_closure.specs.Found.{finds}
 use Rattle.cedar_closure.specs.Graph.{edges_at}
@@ -8,6 +8,7 @@ use Rattle.cedar_closure.proofs.NodeLemmas.{edges_alike, edge_from_node}
 use Rattle.cedar_closure.proofs.Finding.{Reaches-alike, Reaches-to, unchanged, only_found, others_stay, fixes, closes}
 use Rattle.cedar_closure.proofs.Refusal.{on_err}
 use Rattle.cedar_closure.proofs.closing.repair_tc.Goals as goal
+use Rattle.cedar_closure.proofs.closing.repair_tc.Goals.{then-enforce_dag+in_default, else-enforce_dag}
 
 pub returns-in-Some-clause-refused : goal.returns-in-Some-clause-refused
 returns-in-Some-clause-refused g c =
@@ -83,3 +84,12 @@ returns-in_err-add_all-clause-others_left g c =
     let m = g.G.TCGraph.found c.args.nodes.now in
     on_err c.from_residual-in_err-add_all.result
     (others_stay eq (edges_at edges m) (edges_at edges (g.G.TCGraph.found c.add_all.new.nodes)) (λ a. is_some (m a)) c.args.keys_to_fix.now c.in_ok-all.all.items c.in_ok-all.ensures.sound c.in_err-add_all.ensures.left)
+
+pub returns-clause-acyclic : goal.returns-clause-acyclic
+returns-clause-acyclic g c =
+    let eq = g.K.PartialEq.eq in
+    elim c.if-enforce_dag.branch [
+      | then-enforce_dag+in_default w ↦ λ dag a l r.
+          absurd (true≢false (sym (c.in_ok-all.ensures.whole a a l r) ∙ sym (ap (λ rs. finds eq rs a a) w.deref.ensures.value) ∙ w.in_default.ensures.none a))
+      | else-enforce_dag w ↦ λ dag a l r. absurd (true≢false (sym dag ∙ w.if-enforce_dag.false))
+    ]

@@ -2,7 +2,7 @@
 use Rattle.std.proofs.Common.{◌≡◌, ◌≤◌, ◌<◌, ◌+◌, ◌++◌, length, slice_get, Some, IsTrue, ap, sym, ◌∙◌, arith, subst}
 use Rattle.std.proofs.lemmas.Map.Made.{length-le_from_is_member}
 use Rattle.std.proofs.lemmas.List.{length_push}
-use Rattle.cedar_closure.specs.Graph.{edges_at}
+use Rattle.cedar_closure.specs.Graph.{edges_at, edges_of}
 use Rattle.cedar_closure.specs.Numbering.{IsNumbering}
 use Rattle.cedar_closure.proofs.NodeLemmas.{all_targets, edge_from_node, edges_alike, member-all_targets}
 use Rattle.cedar_closure.proofs.NumberSets.{behind_then}
@@ -12,7 +12,7 @@ use Rattle.cedar_closure.proofs.numbering.number_reached.Goals as goal
 pub loop-numbered-init : goal.loop-numbered-init
 loop-numbered-init g c =
     let eq = g.K.PartialEq.eq in
-    let edges = g.V.TCNode.edges in
+    let edges = edges_of g.V.TCNode.direct g.V.TCNode.edges c.args.only_direct in
     record {
       found = c.requires.found;
       behind = nothing_behind c.args.first.keys.items;
@@ -27,7 +27,7 @@ pub loop-numbered-preserved : goal.loop-numbered-preserved
 loop-numbered-preserved g c =
     let eq = g.K.PartialEq.eq in
     let laws = g.met.K.Eq.laws in
-    let node = g.V.TCNode.edges in
+    let node = edges_of g.V.TCNode.direct g.V.TCNode.edges c.args.only_direct in
     let m = g.G.TCGraph.found c.args.nodes.now in
     let next = edges_at node m in
     let same = edges_alike node m eq (g.met.G.TCGraph.alike c.args.nodes.now) in
@@ -57,8 +57,8 @@ loop-numbered-preserved g c =
 
 pub loop-numbered-smaller : goal.loop-numbered-smaller
 loop-numbered-smaller g c =
-    let all = c.args.first.keys.items ++ all_targets (edges_at g.V.TCNode.edges (g.G.TCGraph.found c.args.nodes.now)) (g.G.TCGraph.keys c.args.nodes.now) in
-    let bound : length c.loop-numbered.keys.keys.items ≤ length (c.args.first.keys.items ++ all_targets (edges_at g.V.TCNode.edges (g.G.TCGraph.found c.args.nodes.now)) (g.G.TCGraph.keys c.args.nodes.now)) =
+    let all = c.args.first.keys.items ++ all_targets (edges_at (edges_of g.V.TCNode.direct g.V.TCNode.edges c.args.only_direct) (g.G.TCGraph.found c.args.nodes.now)) (g.G.TCGraph.keys c.args.nodes.now) in
+    let bound : length c.loop-numbered.keys.keys.items ≤ length (c.args.first.keys.items ++ all_targets (edges_at (edges_of g.V.TCNode.direct g.V.TCNode.edges c.args.only_direct) (g.G.TCGraph.found c.args.nodes.now)) (g.G.TCGraph.keys c.args.nodes.now)) =
     length-le_from_is_member g.met.K.Eq.laws c.loop-numbered.keys.keys.items all c.loop-numbered.invariant.found.distinct c.loop-numbered.invariant.bound in
     let below : c.loop-numbered.numbered < length c.loop-numbered.keys.keys.items = omega arith in
     omega arith
@@ -66,7 +66,7 @@ loop-numbered-smaller g c =
 pub returns : goal.returns
 returns g c =
     let eq = g.K.PartialEq.eq in
-    let next = edges_at g.V.TCNode.edges (g.G.TCGraph.found c.args.nodes.now) in
+    let next = edges_at (edges_of g.V.TCNode.direct g.V.TCNode.edges c.args.only_direct) (g.G.TCGraph.found c.args.nodes.now) in
     let inv = c.loop-numbered.invariant in
     let past : length c.loop-numbered.keys.keys.items ≤ c.loop-numbered.numbered = omega arith in
     let short : c.loop-numbered.numbered ≤ length c.loop-numbered.keys.keys.items = inv.short in

@@ -1,6 +1,6 @@
 use Rattle.std.proofs.Common.{◌≡◌, List, ◌++◌, ℕ, ◌<◌, ◌≤◌, ◌-◌, length, IsTrue}
 use Rattle.std.specs.Set.{is_member}
-use Rattle.cedar_closure.specs.Graph.{edges_at}
+use Rattle.cedar_closure.specs.Graph.{edges_at, edges_of}
 use Rattle.cedar_closure.specs.Numbers.{HasTarget}
 use Rattle.cedar_closure.specs.Keys.{digest, IsFound}
 use Rattle.cedar_closure.specs.Numbering.{AreEdgesOf}
@@ -10,7 +10,7 @@ use Rattle.cedar_closure.proofs.numbering.number_reached.Given as goal
 abbrev pub invariant-loop-numbered : goal.invariant-loop-numbered
 invariant-loop-numbered g l =
     let eq = g.K.PartialEq.eq in
-    let edges = g.V.TCNode.edges in
+    let edges = edges_of g.V.TCNode.direct g.V.TCNode.edges l.only_direct in
     record {
       found : IsFound eq (λ x. digest (g.K.Hash.hash_input x)) l.keys.keys.items l.keys.numbers;
       behind : (more : List g.row.K.Denot) × (l.keys.keys.items ≡ l.fn.first.keys.items ++ more);
@@ -22,4 +22,4 @@ invariant-loop-numbered g l =
     }
 
 abbrev pub decreases-loop-numbered : goal.decreases-loop-numbered
-decreases-loop-numbered g l = length (l.fn.first.keys.items ++ all_targets (edges_at g.V.TCNode.edges (g.G.TCGraph.found l.nodes)) (g.G.TCGraph.keys l.nodes)) - l.numbered
+decreases-loop-numbered g l = length (l.fn.first.keys.items ++ all_targets (edges_at (edges_of g.V.TCNode.direct g.V.TCNode.edges l.only_direct) (g.G.TCGraph.found l.nodes)) (g.G.TCGraph.keys l.nodes)) - l.numbered
