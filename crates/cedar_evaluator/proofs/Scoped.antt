@@ -1,6 +1,5 @@
 -- What the scope of a policy asks, decided by the entities that are given.
-use Rattle.std.proofs.Common.{◌≡◌, Bool, true, false, ◌||◌, List, [], ◌∷◌, Option, Some, None, is_none, is_some, option_map, map, refl, sym, ◌∙◌, ap, subst}
-use Rattle.std.specs.List.{list_any}
+use Rattle.std.proofs.Common.{◌≡◌, Bool, true, false, Option, Some, None, is_some, option_map, map, refl, sym, ◌∙◌, ap, subst}
 use Rattle.std.specs.Borrow.{Bor}
 use Rattle.std.specs.Option.{option_copied}
 use Rattle.cedar_language.specs.Uid.{Name, Uid}
@@ -23,7 +22,7 @@ use Rattle.cedar_operators.specs.Hierarchy.{is_within_entity}
 use Rattle.cedar_operators.specs.Store.{HasFacts}
 use Rattle.cedar_interpreter.specs.Seen.{IsSeen}
 use Rattle.cedar_policy_set.specs.ScopeNaming.{is_settled}
-use Rattle.cedar_evaluator.specs.Scopes.{IsDecided, IsTold, constraint_met, unasked, has_ancestor}
+use Rattle.cedar_evaluator.specs.Scopes.{IsDecided, IsTold, constraint_met, unasked}
 use Rattle.cedar_evaluator.proofs.Unmet.{settled}
 
 -- ---- conjunctions
@@ -56,28 +55,6 @@ module _ (facts : Facts) (holds : LeafAnswers) where
   pub out_of_scope : (scope : Tree) (body : Option Tree) → partial_in facts holds scope ≡ Evaluated (Plain (Boolean false)) → partial_in facts holds (with_body scope body) ≡ Evaluated (Plain (Boolean false))
   out_of_scope scope None h = h
   out_of_scope scope (Some c) h = left_decides scope c h
-
--- ---- lists of uids
-
-or_four : (a b c d : Bool) → ((a || b) || (c || d)) ≡ ((a || c) || (b || d))
-or_four true b c d = refl
-or_four false true true d = refl
-or_four false true false d = refl
-or_four false false c d = refl
-
--- an entity is in one of these where it is one of them, or has one as an ancestor
-pub is_or_descends : (u : Uid) (e : Option EntityData) (us : List Uid) → list_any (is_within_entity u e) us ≡ (list_any (same_uid u) us || list_any (has_ancestor e) us)
-is_or_descends u e [] = refl
-is_or_descends u e (v ∷ us) =
-    ap (λ b. is_within_entity u e v || b) (is_or_descends u e us) ∙ or_four (same_uid u v) (has_ancestor e v) (list_any (same_uid u) us) (list_any (has_ancestor e) us)
-
-none_above : (us : List Uid) → list_any (has_ancestor None) us ≡ false
-none_above [] = refl
-none_above (u ∷ us) = none_above us
-
-pub nothing_descends : (o : Option (Bor EntityData)) (us : List Uid) → is_none o ≡ true → false ≡ list_any (has_ancestor (option_copied o)) us
-nothing_descends None us h = sym (none_above us)
-nothing_descends (Some e) us h = absurd (cc h)
 
 -- ---- single constraints
 

@@ -1,7 +1,6 @@
 -- What the scope of a policy asks, against the entities that a request gives.
-use Rattle.std.specs.Prelude.{◌≡◌, ⊤, Bool, true, false, Option, Some, None, IfSome}
-use Rattle.std.specs.FinSet as set
-use Rattle.std.specs.Option.{option_copied, option_map, option_map_or}
+use Rattle.std.specs.Prelude.{◌≡◌, ⊤, Bool, true, Option, Some, None, IfSome}
+use Rattle.std.specs.Option.{option_copied, option_map}
 use Rattle.cedar_language.specs.Uid.{Uid}
 use Rattle.cedar_language.specs.Order.{same_name, same_uid}
 use Rattle.cedar_language.specs.Tree.{Boolean, Entity, Principal, Action, Resource, Tree}
@@ -10,7 +9,6 @@ use Rattle.cedar_language.specs.Facts.{Facts}
 use Rattle.cedar_grammar.specs.Policy.{Constraint, anything, equals, within, of_type, of_type_within}
 use Rattle.cedar_grammar.specs.Scopes.{and_then_met}
 use Rattle.cedar_partial_evaluation.specs.Partial.{Answer, Evaluated, LeafAnswers, partial_in}
-use Rattle.cedar_entities.specs.Data.{EntityData, ancestors_of}
 use Rattle.cedar_entities.specs.declared.store.Entities.{Entities}
 use Rattle.cedar_evaluator.specs.Asking.{Inquiry, variable_asked}
 use Rattle.cedar_interpreter.specs.Seen.{IsSeen}
@@ -37,10 +35,6 @@ pub record AreScopesOf (i : Inquiry) (store : Entities) (s : Scopes) : Type 0 wh
   pub resource : IsGivenAs store (variable_asked i.request Resource) s.resource
 
 -- ---- what a constraint asks of an entity
-
--- whether this is among the ancestors that are held of an entity; none are, where it isn't held
-abbrev pub has_ancestor : Option EntityData → Uid → Bool
-has_ancestor e u = option_map_or (λ held. set.contains (ancestors_of held) u) e false
 
 -- by a test of what the entity is in; not said where the slot isn't bound
 abbrev pub constraint_met : (Uid → Bool) → Uid → Option Uid → Constraint → Option Bool

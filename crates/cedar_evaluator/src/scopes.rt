@@ -19,7 +19,7 @@ ghost use Rattle.cedar_operators.specs.Store.{HasFacts};
 ghost use Rattle.cedar_evaluator.specs.Asking.{Inquiry, request_held, IsEvaluatorOf};
 ghost use Rattle.cedar_policies.specs.Policies.{bindings_of, policy_syntax};
 ghost use Rattle.cedar_policy_set.specs.ScopeNaming.{is_settled};
-ghost use Rattle.cedar_evaluator.specs.Scopes.{IsDecided, IsTold, IsGivenAs, AreScopesOf, constraint_met, unasked, has_ancestor};
+ghost use Rattle.cedar_evaluator.specs.Scopes.{IsDecided, IsTold, IsGivenAs, AreScopesOf, constraint_met, unasked};
 
 use cedar_entities::store::Entities;
 use cedar_extensions::objects::ExtensionFunctionObject;
@@ -41,40 +41,16 @@ pub(crate) struct Scopes<'v> {
     pub(crate) resource: Option<GivenEntity<'v, 'v>>,
 }
 
-// Whether an entity is one of these.
-fn is_one_of(given: &GivenEntity<'_, '_>, uids: &[Rc<EntityUID>]) -> bool
-    ensures { result ≡ list_any (same_uid given.now.uid.now) (held_uids uids.now) }
-{
-    for uid in uids {
-        if given.is(uid) {
-            return true;
-        }
-    }
-    false
-}
-
-// Whether an entity descends from one of these; where the store doesn't hold it, none is looked at.
-#[tactic(auto, using(crate::proofs::Scoped::nothing_descends))]
-fn descends_from_one(given: &GivenEntity<'_, '_>, uids: &[Rc<EntityUID>]) -> bool
-    ensures { result ≡ list_any (has_ancestor (option_copied given.now.entity)) (held_uids uids.now) }
-{
-    if given.entity.is_none() {
-        return false;
-    }
-    for uid in uids {
-        if given.descends_from(uid) {
-            return true;
-        }
-    }
-    false
-}
-
 // Whether an entity is one of these, or in one.
-#[tactic(auto, using(crate::proofs::Scoped::is_or_descends))]
 fn is_in_some(given: &GivenEntity<'_, '_>, uids: &[Rc<EntityUID>]) -> bool
     ensures { result ≡ list_any (is_within_entity given.now.uid.now (option_copied given.now.entity)) (held_uids uids.now) }
 {
-    is_one_of(given, uids) || descends_from_one(given, uids)
+    for uid in uids {
+        if given.is_in(uid) {
+            return true;
+        }
+    }
+    false
 }
 
 fn is_target(given: &GivenEntity<'_, '_>, target: Option<&EntityUID>) -> Option<bool>

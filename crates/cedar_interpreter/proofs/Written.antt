@@ -39,9 +39,9 @@ low no_trees h = omega arith
 low (a_tree (Lit l) ts) h = omega (arith, low ts h)
 low (a_tree t ts) h = absurd (cc h)
 
--- the set of these literals, two levels above the limit
-pub set_tells : {F : Type 0} (ev : Evaluator F) (d e : ℕ) (ts : Trees) → d ≡ e + 1 → are_literals ts ≡ true → Tells ev (d + 1) (Apply MakeSet ts) (set_of (literals_in ts))
-set_tells ev d e ts is h = record {
+-- the set of these literals, where the limit isn't met
+pub set_tells : {F : Type 0} (ev : Evaluator F) (d : ℕ) (ts : Trees) → 1 ≤ d → are_literals ts ≡ true → Tells ev (d + 1) (Apply MakeSet ts) (set_of (literals_in ts))
+set_tells ev d ts is h = record {
   value = λ naming facts slots has. ap (construct_answer naming facts (held_by ev slots) MakeSet) (written naming facts (held_by ev slots) ts h);
   within = omega (arith, low ts h, is);
 }
@@ -133,8 +133,10 @@ module _ (s : Entities) (facts : Facts) (has : HasFacts s facts) (a : Uid) (o : 
       let rises = rising_uids facts us in
       ap (λ vs. within_members facts a (uids_in (rising vs))) (listed ts h) ∙ ap (within_members facts a) rises.uids_are ∙ ap truth (rises.found a ∙ within_listed us)
 
-  pub is_within_literals : (ts : Trees) (b : Bool) → are_entities ts ≡ true → list_any (is_within_entity a (option_copied o)) (entities_in ts) ≡ b → within_members facts a (uids_in (rising (literals_in ts))) ≡ truth b
-  is_within_literals ts b h e = within_literals ts h ∙ ap truth e
+  pub is_within_literals : (ts : Trees) (r : Option Bool) → are_entities ts ≡ true → IfSome r (λ b. list_any (is_within_entity a (option_copied o)) (entities_in ts) ≡ b) →
+      IfSome r (λ b. within_members facts a (uids_in (rising (literals_in ts))) ≡ truth b)
+  is_within_literals ts None h e = tt
+  is_within_literals ts (Some b) h e = within_literals ts h ∙ ap truth e
 
 -- ---- what operators give of sets that are written or held
 

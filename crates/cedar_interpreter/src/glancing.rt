@@ -315,7 +315,6 @@ impl<'s, 'e, 'f, F> Evaluator<'s, 'e, 'f, F> {
     }
 
     // The set of members that are literals alone: any other may err.
-    #[tactic(auto, using(crate::proofs::Written::set_tells))]
     fn glance_set<'a>(&'a self, members: &'a Vec<Expr>, depth: u32) -> Option<Lent<'a>>
         ensures { IfSome result (λ lent. Tells self.now (depth + 1) (tree.Apply tree.MakeSet (trees (map bare members.now.items))) (value_lent lent)) }
     {

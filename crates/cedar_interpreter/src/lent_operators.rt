@@ -150,7 +150,7 @@ fn less_eq_lent(left: Lent<'_>, right: Lent<'_>) -> Option<bool>
 }
 
 // Whether an entity is another one, or one of a written set, or below it.
-#[tactic(auto, using(crate::proofs::Written::in_written, crate::proofs::Written::in_entity))]
+#[tactic(auto, using(crate::proofs::Written::in_entity))]
 fn in_lent(entities: &Entities, left: Lent<'_>, right: Lent<'_>) -> Option<bool>
     ensures { (facts : Facts) → HasFacts entities.now facts → IfSome result (λ b. in_of facts (two (value_lent left.entry) (value_lent right.entry)) ≡ truth b) }
 {
@@ -175,7 +175,7 @@ fn contains_lent(set: Lent<'_>, member: Lent<'_>) -> Option<bool>
 }
 
 // Whether a set has all members of another; not told where both are written.
-#[tactic(auto, using(crate::proofs::Written::each_written, crate::proofs::Written::with_held))]
+#[tactic(auto, using(crate::proofs::Written::with_held))]
 fn contains_all_lent(left: Lent<'_>, right: Lent<'_>) -> Option<bool>
     ensures { IfSome result (λ b. of_two_sets has_all (two (value_lent left.entry) (value_lent right.entry)) ≡ truth b) }
 {
@@ -186,7 +186,7 @@ fn contains_all_lent(left: Lent<'_>, right: Lent<'_>) -> Option<bool>
     }
 }
 
-#[tactic(auto, using(crate::proofs::Written::all_among_written, crate::proofs::Written::both_held))]
+#[tactic(auto, using(crate::proofs::Written::both_held))]
 fn contains_all_held(set: Lent<'_>, members: &Set) -> Option<bool>
     ensures { IfSome result (λ b. of_two_sets has_all (two (value_lent set.entry) (SetOf (all_of members.now))) ≡ truth b) }
 {
@@ -198,7 +198,7 @@ fn contains_all_held(set: Lent<'_>, members: &Set) -> Option<bool>
 }
 
 // Whether a set has some member of another; not told where both are written.
-#[tactic(auto, using(crate::proofs::Written::one_written, crate::proofs::Written::with_held))]
+#[tactic(auto, using(crate::proofs::Written::with_held))]
 fn contains_any_lent(left: Lent<'_>, right: Lent<'_>) -> Option<bool>
     ensures { IfSome result (λ b. of_two_sets has_some (two (value_lent left.entry) (value_lent right.entry)) ≡ truth b) }
 {
@@ -209,7 +209,7 @@ fn contains_any_lent(left: Lent<'_>, right: Lent<'_>) -> Option<bool>
     }
 }
 
-#[tactic(auto, using(crate::proofs::Written::some_among_written, crate::proofs::Written::both_held, crate::proofs::Written::not_apart))]
+#[tactic(auto, using(crate::proofs::Written::both_held, crate::proofs::Written::not_apart))]
 fn contains_any_held(set: Lent<'_>, others: &Set) -> Option<bool>
     ensures { IfSome result (λ b. of_two_sets has_some (two (value_lent set.entry) (SetOf (all_of others.now))) ≡ truth b) }
 {

@@ -202,16 +202,16 @@ fn is_in_one(given: &GivenEntity<'_, '_>, entities: &[Expr]) -> Option<bool>
 }
 
 /// Whether an entity is one of these literals, or below one; told only where each is an entity.
-#[tactic(auto, using(crate::proofs::Written::is_within_literals))]
 pub(crate) fn is_within_one(entities: &Entities, uid: &EntityUID, literals: &[Expr]) -> Option<bool>
     ensures { (facts : Facts) → HasFacts entities.now facts → IfSome result (λ b. within_members facts uid.now (uids_in (rising (literals_in (trees (map bare literals.now))))) ≡ truth b) }
 {
-    if !are_entities(literals) {
-        return None;
+    if are_entities(literals) {
+        let given = GivenEntity {
+            uid,
+            entity: held(entities, uid),
+        };
+        is_in_one(&given, literals)
+    } else {
+        None
     }
-    let given = GivenEntity {
-        uid,
-        entity: held(entities, uid),
-    };
-    is_in_one(&given, literals)
 }
