@@ -13,6 +13,8 @@ use Rattle.cedar_interpreter.proofs.lent_operators.contains_all_held.Goals as go
 
 pub returns-in-Written : goal.returns-in-Written
 returns-in-Written c =
-    subst (λ ms. IfSome c.are_among.result (λ b. of_two_sets has_all (two (value_lent c.args.set) (SetOf (all_of ms))) ≡ truth b)) c.authoritative.ensures.members
-    (all_among_written c.sets_are_finite.ensures (value_lent c.args.set) (literals_in (trees (map bare c.deref.result.now))) (all_of c.authoritative.result.now) c.are_among.result
+    let literals = literals_in (trees (map bare c.deref.result.now)) in
+    subst (λ ms. IfSome c.are_among.result (λ b. of_two_sets has_all (two (value_lent c.args.set) (SetOf (all_of ms))) ≡ truth b))
+    c.authoritative.ensures.members
+    (all_among_written c.sets_are_finite.ensures (value_lent c.args.set) literals (all_of c.authoritative.result.now) c.are_among.result
     (ap value_lent c.in-Written.is ∙ ap (λ es. set_of (literals_in (trees (map bare es)))) (sym c.deref.ensures.value)) c.are_among.ensures)

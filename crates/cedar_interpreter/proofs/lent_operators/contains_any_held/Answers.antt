@@ -10,5 +10,6 @@ use Rattle.cedar_interpreter.proofs.lent_operators.contains_any_held.Goals as go
 
 pub returns-in-Written : goal.returns-in-Written
 returns-in-Written c =
-    some_among_written c.sets_are_finite.ensures (value_lent c.args.set) (literals_in (trees (map bare c.deref.result.now))) (all_of c.args.others.now) c.has_one.result
+    let literals = literals_in (trees (map bare c.deref.result.now)) in
+    some_among_written c.sets_are_finite.ensures (value_lent c.args.set) literals (all_of c.args.others.now) c.has_one.result
     (ap value_lent c.in-Written.is ∙ ap (λ es. set_of (literals_in (trees (map bare es)))) (sym c.deref.ensures.value)) c.has_one.ensures

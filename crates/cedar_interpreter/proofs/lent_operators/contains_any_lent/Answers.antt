@@ -10,5 +10,8 @@ use Rattle.cedar_interpreter.proofs.lent_operators.contains_any_lent.Goals as go
 
 pub returns-in_ok-set-in-Written : goal.returns-in_ok-set-in-Written
 returns-in_ok-set-in-Written c =
-    one_written c.sets_are_finite.ensures (value_lent c.args.right) (literals_in (trees (map bare c.deref.result.now))) (value_lent c.args.left) (all_of c.in_ok-set-in-Written.field-0.now) c.has_one.result
-    (ap value_lent c.in-Written.is ∙ ap (λ es. set_of (literals_in (trees (map bare es)))) (sym c.deref.ensures.value)) c.in_ok-set-in-Written.ensures c.has_one.ensures
+    let literals = literals_in (trees (map bare c.deref.result.now)) in
+    one_written c.sets_are_finite.ensures (value_lent c.args.right) literals (value_lent c.args.left) (all_of c.in_ok-set-in-Written.field-0.now)
+    c.has_one.result
+    (ap value_lent c.in-Written.is ∙ ap (λ es. set_of (literals_in (trees (map bare es)))) (sym c.deref.ensures.value))
+    c.in_ok-set-in-Written.ensures c.has_one.ensures

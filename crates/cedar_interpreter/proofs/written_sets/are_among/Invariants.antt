@@ -8,4 +8,6 @@ use Rattle.cedar_interpreter.specs.Written.{literals_in}
 use Rattle.cedar_interpreter.proofs.written_sets.are_among.Given as goal
 
 abbrev pub invariant-loop-value : goal.invariant-loop-value
-invariant-loop-value l = has_all (literals_in (trees (map bare l.literals))) (all_of l.values) ≡ has_all (literals_in (trees (map bare l.literals))) (all_of (drop l.value-index l.values))
+invariant-loop-value l =
+    has_all (literals_in (trees (map bare l.literals))) (all_of l.values)
+    ≡ has_all (literals_in (trees (map bare l.literals))) (all_of (drop l.value-index l.values))

@@ -6,4 +6,5 @@ use Rattle.cedar_trees.specs.Shapes.{are_entities}
 use Rattle.cedar_interpreter.proofs.written_sets.are_entities.Given as goal
 
 abbrev pub invariant-loop-member : goal.invariant-loop-member
-invariant-loop-member l = are_entities (trees (map bare l.members)) ≡ are_entities (trees (map bare (drop l.member-index l.members)))
+invariant-loop-member l =
+    are_entities (trees (map bare l.members)) ≡ are_entities (trees (map bare (drop l.member-index l.members)))

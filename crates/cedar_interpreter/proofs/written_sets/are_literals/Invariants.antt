@@ -6,4 +6,5 @@ use Rattle.cedar_interpreter.specs.Written.{are_literals}
 use Rattle.cedar_interpreter.proofs.written_sets.are_literals.Given as goal
 
 abbrev pub invariant-loop-member : goal.invariant-loop-member
-invariant-loop-member l = are_literals (trees (map bare l.members)) ≡ are_literals (trees (map bare (drop l.member-index l.members)))
+invariant-loop-member l =
+    are_literals (trees (map bare l.members)) ≡ are_literals (trees (map bare (drop l.member-index l.members)))

@@ -8,4 +8,6 @@ use Rattle.cedar_interpreter.specs.Written.{literals_in}
 use Rattle.cedar_interpreter.proofs.written_sets.has_each.Given as goal
 
 abbrev pub invariant-loop-literal : goal.invariant-loop-literal
-invariant-loop-literal l = has_all (all_of l.set) (literals_in (trees (map bare l.literals))) ≡ has_all (all_of l.set) (literals_in (trees (map bare (drop l.literal-index l.literals))))
+invariant-loop-literal l =
+    has_all (all_of l.set) (literals_in (trees (map bare l.literals)))
+    ≡ has_all (all_of l.set) (literals_in (trees (map bare (drop l.literal-index l.literals))))

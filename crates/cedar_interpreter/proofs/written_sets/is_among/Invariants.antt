@@ -8,4 +8,6 @@ use Rattle.cedar_interpreter.specs.Written.{literals_in}
 use Rattle.cedar_interpreter.proofs.written_sets.is_among.Given as goal
 
 abbrev pub invariant-loop-literal : goal.invariant-loop-literal
-invariant-loop-literal l = has_member (literals_in (trees (map bare l.literals))) (value_lent l.value) ≡ has_member (literals_in (trees (map bare (drop l.literal-index l.literals)))) (value_lent l.value)
+invariant-loop-literal l =
+    has_member (literals_in (trees (map bare l.literals))) (value_lent l.value)
+    ≡ has_member (literals_in (trees (map bare (drop l.literal-index l.literals)))) (value_lent l.value)

@@ -9,6 +9,6 @@ use Rattle.cedar_interpreter.specs.Written.{entities_in}
 use Rattle.cedar_interpreter.proofs.written_sets.is_in_one.Given as goal
 
 abbrev pub invariant-loop-entity : goal.invariant-loop-entity
-invariant-loop-entity l = 
+invariant-loop-entity l =
     let test = is_within_entity l.given.uid.now (option_copied l.given.entity) in
     list_any test (entities_in (trees (map bare l.entities))) ≡ list_any test (entities_in (trees (map bare (drop l.entity-index l.entities))))
