@@ -59,6 +59,12 @@ def written_sets(count):
     return frame('load', text), ASK % ('User::"u"', 'read', 'Data::"d"', '{s: "d"}')
 
 
+def action_lists(count):
+    """Twenty policies whose scopes list so many actions; the one that is asked for isn't among them, nor held."""
+    listed = ', '.join(f'Action::"a{n:03}"' for n in range(count))
+    return frame('load', f'permit(principal, action in [{listed}], resource);\n' * 20), ASK % ('User::"u"', 'view', 'Data::"d"', '{}')
+
+
 def contexts(count):
     """A context of so many keys."""
     keys = ', '.join(f'k{n}: {n}' for n in range(count))
@@ -71,6 +77,7 @@ CASES = {
     'clauses': (clauses, (10, 100)),
     'arithmetic': (arithmetic, (50,)),
     'written_sets': (written_sets, (50,)),
+    'action_lists': (action_lists, (100,)),
     'contexts': (contexts, (10, 100, 1000)),
 }
 

@@ -21,4 +21,5 @@ pub mod Known
 pub mod Meant
 pub mod Asked
 pub mod Glanced
+pub mod Written
 pub mod Tested

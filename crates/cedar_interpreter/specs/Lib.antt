@@ -6,6 +6,7 @@ pub mod Depths
 pub mod Naming
 pub mod Holding
 pub mod Seen
+pub mod Written
 pub mod Glancing
 pub mod Asking
 pub mod Restricted

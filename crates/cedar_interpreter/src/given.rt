@@ -6,10 +6,9 @@ ghost use Rattle.cedar_entities.specs.Data.{ancestors_of};
 ghost use Rattle.cedar_language.specs.Order.{same_name, same_uid};
 ghost use Rattle.cedar_operators.specs.Hierarchy.{is_within_entity};
 
-use crate::lent_lookups::is_below;
+use crate::lent_lookups::{is_below, is_same_uid};
 use cedar_entities::entity::Entity;
 use cedar_literals::uids::{EntityType, EntityUID};
-use cedar_names::comparing::is_same;
 
 /// An entity that a request gives, with what a store holds of it. Both are lent, so nothing is looked up where
 /// something is asked of it.
@@ -23,12 +22,12 @@ pub struct GivenEntity<'v, 's> {
 
 impl GivenEntity<'_, '_> {
     /// Whether it is this entity.
-    // The ids first, in which most entities that are compared differ.
-    #[tactic(auto, using(crate::proofs::Glanced::same_by_id, crate::proofs::Glanced::differs_by_id))]
+    // Inlined, since scopes ask it for each action that they list.
+    #[inline(always)]
     pub fn is(&self, uid: &EntityUID) -> bool
         ensures { result ≡ same_uid self.now.uid.now uid.now }
     {
-        is_same(self.uid.eid().as_str(), uid.eid().as_str()) && self.is_of(uid.entity_type())
+        is_same_uid(self.uid, uid)
     }
 
     /// Whether it is of this type.

@@ -1,9 +1,9 @@
 // Expressions that are told at a glance: on values that are lent, without memory and without an error. What
 // isn't told so is left to the full evaluation.
-ghost use Rattle.std.specs.Prelude.{◌≡◌, ◌≤◌, ◌+◌, Bool, IfSome};
+ghost use Rattle.std.specs.Prelude.{◌≡◌, ◌≤◌, ◌+◌, Bool, IfSome, map};
 ghost use Rattle.std.specs.Rc.{rc_str_bytes};
 ghost use Rattle.cedar_policy_parts.specs.Bindings.{Bindings};
-ghost use Rattle.cedar_grammar.specs.Build.{unary, binary};
+ghost use Rattle.cedar_grammar.specs.Build.{trees, unary, binary};
 ghost use Rattle.cedar_language.specs.Facts.{Facts};
 ghost use Rattle.cedar_language.specs.Tree as tree;
 ghost use Rattle.cedar_language.specs.Tree.{Boolean, Long};
@@ -23,6 +23,7 @@ use crate::lent::Lent;
 use crate::lent_lookups::{attribute_lent, attribute_of_held};
 use crate::lent_operators::{long_of_two, negative_lent, test_of_one, test_of_two};
 use crate::operands::UnaryOperator;
+use crate::written_sets::are_literals;
 use cedar_literals::literals::Integer;
 use cedar_literals::operators::{BinaryOp, UnaryOp};
 use cedar_literals::variables::Var;
@@ -87,6 +88,7 @@ impl<'s, 'e, 'f, F> Evaluator<'s, 'e, 'f, F> {
             ExprKind::GetAttr { expr, attr } => self.glance_attribute(expr, attr, below),
             ExprKind::UnaryApp { op, arg } => self.glance_of_one(*op, arg, below),
             ExprKind::BinaryApp { op, arg1, arg2 } => self.glance_of_two(*op, arg1, arg2, below),
+            ExprKind::Set(members) => self.glance_set(members, below),
             _ => {
                 let told = self.glance_operator(expr, below)?;
                 Some(Lent::Bool(told))
@@ -309,6 +311,18 @@ impl<'s, 'e, 'f, F> Evaluator<'s, 'e, 'f, F> {
                 Some(lent)
             }
             _ => None,
+        }
+    }
+
+    // The set of members that are literals alone: any other may err.
+    fn glance_set<'a>(&'a self, members: &'a Vec<Expr>, depth: u32) -> Option<Lent<'a>>
+        ensures { IfSome result (λ lent. Tells self.now (depth + 1) (tree.Apply tree.MakeSet (trees (map bare members.now.items))) (value_lent lent)) }
+    {
+        let _level = depth.checked_sub(1)?;
+        if are_literals(members) {
+            Some(Lent::Written(members))
+        } else {
+            None
         }
     }
 

@@ -2,7 +2,8 @@
 ghost use Rattle.std.specs.Prelude.{◌≡◌, IfSome};
 ghost use Rattle.std.specs.Rc.{rc_str_bytes};
 ghost use Rattle.cedar_language.specs.Tree as tree;
-ghost use Rattle.cedar_language.specs.Value.{Plain};
+ghost use Rattle.cedar_language.specs.Order.{all_of};
+ghost use Rattle.cedar_language.specs.Value.{Plain, SetOf};
 ghost use Rattle.cedar_literals.specs.Literals.{literal_of};
 ghost use Rattle.cedar_restricted.specs.PartialValues.{partial_of};
 ghost use Rattle.either.specs.declared.Either.TheVariants.{Left};
@@ -11,7 +12,8 @@ ghost use Rattle.cedar_interpreter.specs.Glancing.{value_lent};
 use cedar_literals::literals::{Integer, Literal};
 use cedar_literals::uids::EntityUID;
 use cedar_restricted::partial_values::PartialValue;
-use cedar_values::values::{Value, ValueKind};
+use cedar_trees::expr::Expr;
+use cedar_values::values::{Set, Value, ValueKind};
 use std::rc::{Rc, RcStr};
 
 /// A value that an expression has.
@@ -27,6 +29,8 @@ pub(crate) enum Lent<'a> {
     Entity(&'a Rc<EntityUID>),
     /// A set, a record or an extension value.
     Held(&'a Value),
+    /// The set of these literals, as it is written.
+    Written(&'a Vec<Expr>),
 }
 
 impl<'a> Lent<'a> {
@@ -70,7 +74,8 @@ impl<'a> Lent<'a> {
     {
         match self {
             Lent::Bool(b) => Some(b),
-            Lent::Long(_) | Lent::Text(_) | Lent::Entity(_) | Lent::Held(_) => None,
+            Lent::Long(_) | Lent::Text(_) | Lent::Entity(_) => None,
+            Lent::Held(_) | Lent::Written(_) => None,
         }
     }
 
@@ -80,7 +85,8 @@ impl<'a> Lent<'a> {
     {
         match self {
             Lent::Long(n) => Some(n),
-            Lent::Bool(_) | Lent::Text(_) | Lent::Entity(_) | Lent::Held(_) => None,
+            Lent::Bool(_) | Lent::Text(_) | Lent::Entity(_) => None,
+            Lent::Held(_) | Lent::Written(_) => None,
         }
     }
 
@@ -90,7 +96,8 @@ impl<'a> Lent<'a> {
     {
         match self {
             Lent::Text(text) => Some(text),
-            Lent::Bool(_) | Lent::Long(_) | Lent::Entity(_) | Lent::Held(_) => None,
+            Lent::Bool(_) | Lent::Long(_) | Lent::Entity(_) => None,
+            Lent::Held(_) | Lent::Written(_) => None,
         }
     }
 
@@ -100,17 +107,29 @@ impl<'a> Lent<'a> {
     {
         match self {
             Lent::Entity(uid) => Some(uid),
-            Lent::Bool(_) | Lent::Long(_) | Lent::Text(_) | Lent::Held(_) => None,
+            Lent::Bool(_) | Lent::Long(_) | Lent::Text(_) => None,
+            Lent::Held(_) | Lent::Written(_) => None,
         }
     }
 
-    /// The set, record or extension value that it is.
+    /// The set, record or extension value that is held.
     pub(crate) fn held(self) -> Option<&'a Value>
         ensures { IfSome result (λ value. value_lent self.entry ≡ value.now) }
     {
         match self {
             Lent::Held(value) => Some(value),
             Lent::Bool(_) | Lent::Long(_) | Lent::Text(_) | Lent::Entity(_) => None,
+            Lent::Written(_) => None,
+        }
+    }
+
+    /// The set that is held.
+    pub(crate) fn set(self) -> Option<&'a Set>
+        ensures { IfSome result (λ set. value_lent self.entry ≡ SetOf (all_of set.now)) }
+    {
+        match self.held()?.value_kind() {
+            ValueKind::Set(set) => Some(set),
+            ValueKind::Lit(_) | ValueKind::Record(_) | ValueKind::ExtensionValue(_) => None,
         }
     }
 }

@@ -9,6 +9,7 @@ ghost use Rattle.cedar_entities.specs.Store.{held_at};
 ghost use Rattle.cedar_entities.specs.declared.store.Entities.{Entities as Store};
 ghost use Rattle.cedar_language.specs.Facts.{Facts};
 ghost use Rattle.cedar_language.specs.Operators.{truth, found, or_fails, is_there, attribute_held, attribute, is_within};
+ghost use Rattle.cedar_language.specs.Order.{same_uid};
 ghost use Rattle.cedar_language.specs.Uid.{Uid};
 ghost use Rattle.cedar_language.specs.Value.{RecordAttrDoesNotExist, Gives};
 ghost use Rattle.cedar_values.specs.Kinds.{keys_of, values_of};
@@ -44,7 +45,7 @@ pub(crate) fn attribute_lent<'a>(
     match of {
         Lent::Entity(uid) => attribute_of_entity(entities, uid, attr),
         Lent::Held(value) => attribute_of_record(value, attr),
-        Lent::Bool(_) | Lent::Long(_) | Lent::Text(_) => None,
+        Lent::Bool(_) | Lent::Long(_) | Lent::Text(_) | Lent::Written(_) => None,
     }
 }
 
@@ -114,7 +115,7 @@ pub(crate) fn has_lent(entities: &Entities, of: Lent<'_>, attr: &str) -> Option<
     match of {
         Lent::Entity(uid) => Some(entity_has(entities, uid, attr)),
         Lent::Held(value) => record_has(value, attr),
-        Lent::Bool(_) | Lent::Long(_) | Lent::Text(_) => None,
+        Lent::Bool(_) | Lent::Long(_) | Lent::Text(_) | Lent::Written(_) => None,
     }
 }
 
@@ -143,6 +144,15 @@ fn has_field(fields: &BTreeMap<RcStr, Value>, key: &str) -> bool
         Some(_) => true,
         None => false,
     }
+}
+
+/// Whether both are one: the ids first, in which most entities that are compared differ.
+#[inline(always)]
+#[tactic(auto, using(crate::proofs::Glanced::same_by_id, crate::proofs::Glanced::differs_by_id))]
+pub(crate) fn is_same_uid(uid: &EntityUID, other: &EntityUID) -> bool
+    ensures { result ≡ same_uid uid.now other.now }
+{
+    is_same(uid.eid().as_str(), other.eid().as_str()) && uid.entity_type() == other.entity_type()
 }
 
 /// Whether an entity is another one, or below it.

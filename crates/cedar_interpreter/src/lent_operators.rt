@@ -2,11 +2,11 @@
 ghost use Rattle.std.specs.Prelude.{◌≡◌, ◌+ℤ◌, ◌-ℤ◌, ◌*ℤ◌, IfSome};
 ghost use Rattle.std.specs.Str.{chars};
 ghost use Rattle.cedar_language.specs.Facts.{Facts};
-ghost use Rattle.cedar_language.specs.Operators.{applied, truth, negated, arithmetic, like_of, is_of, less_of, less_eq_of, contains_of, has_member};
+ghost use Rattle.cedar_language.specs.Operators.{applied, truth, negated, arithmetic, like_of, is_of, less_of, less_eq_of, in_of, contains_of, of_two_sets, has_member, has_all, has_some};
 ghost use Rattle.cedar_language.specs.Order.{same, all_of};
 ghost use Rattle.cedar_language.specs.Pattern.{matches};
 ghost use Rattle.cedar_language.specs.Tree.{Long};
-ghost use Rattle.cedar_language.specs.Value.{Plain, Gives};
+ghost use Rattle.cedar_language.specs.Value.{Plain, SetOf, Gives};
 ghost use Rattle.cedar_literals.specs.Operators.{binary_operator_of};
 ghost use Rattle.cedar_value_operators.specs.Operands.{one, two};
 ghost use Rattle.cedar_operators.specs.Store.{HasFacts};
@@ -16,12 +16,13 @@ ghost use Rattle.cedar_interpreter.specs.Glancing.{value_lent};
 use crate::lent::Lent;
 use crate::lent_lookups::{has_lent, is_within};
 use crate::operands::UnaryOperator;
+use crate::written_sets::{are_among, has_each, has_one, is_among, is_within_one};
 use cedar_entities::store::Entities;
 use cedar_literals::literals::{Integer, Literal};
 use cedar_literals::operators::BinaryOp;
 use cedar_literals::patterns::Pattern;
 use cedar_literals::uids::EntityType;
-use cedar_values::values::{Set, Value, ValueKind};
+use cedar_values::values::{Set, Value};
 
 /// What `has`, `like` or `is` gives.
 pub(crate) fn test_of_one(entities: &Entities, op: UnaryOperator<'_>, of: Lent<'_>) -> Option<bool>
@@ -112,10 +113,11 @@ pub(crate) fn test_of_two(
         BinaryOp::Eq => equal_lent(left, right),
         BinaryOp::Less => less_lent(left, right),
         BinaryOp::LessEq => less_eq_lent(left, right),
-        BinaryOp::In => Some(is_within(entities, left.entity()?, right.entity()?)),
+        BinaryOp::In => in_lent(entities, left, right),
         BinaryOp::Contains => contains_lent(left, right),
+        BinaryOp::ContainsAll => contains_all_lent(left, right),
+        BinaryOp::ContainsAny => contains_any_lent(left, right),
         BinaryOp::Add | BinaryOp::Sub | BinaryOp::Mul => None,
-        BinaryOp::ContainsAll | BinaryOp::ContainsAny => None,
         BinaryOp::GetTag | BinaryOp::HasTag => None,
     }
 }
@@ -131,6 +133,7 @@ fn equal_lent(left: Lent<'_>, right: Lent<'_>) -> Option<bool>
         Lent::Text(x) => Some(*x == *right.text()?),
         Lent::Entity(x) => Some(**x == **right.entity()?),
         Lent::Held(x) => Some(*x == *right.held()?),
+        Lent::Written(_) => None,
     }
 }
 
@@ -146,17 +149,79 @@ fn less_eq_lent(left: Lent<'_>, right: Lent<'_>) -> Option<bool>
     Some(left.long()? <= right.long()?)
 }
 
-// Whether a set has a member.
-fn contains_lent(set: Lent<'_>, member: Lent<'_>) -> Option<bool>
-    ensures { IfSome result (λ b. contains_of (two (value_lent set.entry) (value_lent member.entry)) ≡ truth b) }
+// Whether an entity is another one, or one of a written set, or below it.
+#[tactic(auto, using(crate::proofs::Written::in_entity))]
+fn in_lent(entities: &Entities, left: Lent<'_>, right: Lent<'_>) -> Option<bool>
+    ensures { (facts : Facts) → HasFacts entities.now facts → IfSome result (λ b. in_of facts (two (value_lent left.entry) (value_lent right.entry)) ≡ truth b) }
 {
-    match set.held()?.value_kind() {
-        ValueKind::Set(members) => is_member(members, member),
-        ValueKind::Lit(_) | ValueKind::Record(_) | ValueKind::ExtensionValue(_) => None,
+    let uid = left.entity()?;
+    match right {
+        Lent::Written(literals) => is_within_one(entities, uid, literals),
+        _ => Some(is_within(entities, uid, right.entity()?)),
     }
 }
 
-fn is_member(members: &Set, member: Lent<'_>) -> Option<bool>
+// Whether a set has a member.
+#[tactic(auto, using(crate::proofs::Written::contains_written, crate::proofs::Written::contains_held))]
+fn contains_lent(set: Lent<'_>, member: Lent<'_>) -> Option<bool>
+    ensures { IfSome result (λ b. contains_of (two (value_lent set.entry) (value_lent member.entry)) ≡ truth b) }
+{
+    // This law, as those below, runs no code: a written set has the members that are written.
+    cedar_language::sets_are_finite();
+    match set {
+        Lent::Written(literals) => is_among(literals, member),
+        _ => is_member(set.set()?, member),
+    }
+}
+
+// Whether a set has all members of another; not told where both are written.
+#[tactic(auto, using(crate::proofs::Written::with_held))]
+fn contains_all_lent(left: Lent<'_>, right: Lent<'_>) -> Option<bool>
+    ensures { IfSome result (λ b. of_two_sets has_all (two (value_lent left.entry) (value_lent right.entry)) ≡ truth b) }
+{
+    cedar_language::sets_are_finite();
+    match right {
+        Lent::Written(literals) => has_each(left.set()?, literals),
+        _ => contains_all_held(left, right.set()?),
+    }
+}
+
+#[tactic(auto, using(crate::proofs::Written::both_held))]
+fn contains_all_held(set: Lent<'_>, members: &Set) -> Option<bool>
+    ensures { IfSome result (λ b. of_two_sets has_all (two (value_lent set.entry) (SetOf (all_of members.now))) ≡ truth b) }
+{
+    cedar_language::sets_are_finite();
+    match set {
+        Lent::Written(literals) => are_among(literals, members.authoritative()),
+        _ => Some(members.is_subset(set.set()?)),
+    }
+}
+
+// Whether a set has some member of another; not told where both are written.
+#[tactic(auto, using(crate::proofs::Written::with_held))]
+fn contains_any_lent(left: Lent<'_>, right: Lent<'_>) -> Option<bool>
+    ensures { IfSome result (λ b. of_two_sets has_some (two (value_lent left.entry) (value_lent right.entry)) ≡ truth b) }
+{
+    cedar_language::sets_are_finite();
+    match right {
+        Lent::Written(literals) => has_one(left.set()?, literals),
+        _ => contains_any_held(left, right.set()?),
+    }
+}
+
+#[tactic(auto, using(crate::proofs::Written::both_held, crate::proofs::Written::not_apart))]
+fn contains_any_held(set: Lent<'_>, others: &Set) -> Option<bool>
+    ensures { IfSome result (λ b. of_two_sets has_some (two (value_lent set.entry) (SetOf (all_of others.now))) ≡ truth b) }
+{
+    cedar_language::sets_are_finite();
+    match set {
+        Lent::Written(literals) => has_one(others, literals),
+        _ => Some(!others.is_disjoint(set.set()?)),
+    }
+}
+
+/// Whether a value is a member of a set.
+pub(crate) fn is_member(members: &Set, member: Lent<'_>) -> Option<bool>
     ensures { IfSome result (λ b. has_member (all_of members.now) (value_lent member.entry) ≡ b) }
 {
     match member {
@@ -171,5 +236,6 @@ fn is_member(members: &Set, member: Lent<'_>) -> Option<bool>
             Err(_) => None,
         },
         Lent::Held(value) => Some(members.contains(value)),
+        Lent::Written(_) => None,
     }
 }

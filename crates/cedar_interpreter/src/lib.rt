@@ -26,6 +26,7 @@ mod restricted;
 mod seeing;
 mod stated;
 mod waiting;
+mod written_sets;
 
 pub use asking::AskedVariables;
 pub use evaluator::Evaluator;
