@@ -1,5 +1,5 @@
 -- What a question is answered over the policies and entities of a world, when it is asked and once more is told.
-use Rattle.std.specs.Prelude.{◌≡◌, ◌⊎◌, ⊤, true, Result, Ok, Err, List, []}
+use Rattle.std.specs.Prelude.{◌≡◌, ◌⊎◌, ⊤, ℕ, true, Result, Ok, Err, List, []}
 use Rattle.std.specs.FinMap as finite
 use Rattle.std.specs.declared.alloc.Global.{Global}
 use Rattle.std.specs.declared.rc.RcStr.{RcStr}
@@ -18,21 +18,28 @@ use Rattle.cedar_world.specs.World.{World}
 use Rattle.cedar_world.specs.WorldFacts.{facts_of}
 use Rattle.cedar_world.specs.Lookups.{ListsStanding}
 use Rattle.cedar_held.specs.BodyRefusals.{refusal_by}
+use Rattle.cedar_partial_evaluation.specs.Question.{Extends}
+use Rattle.cedar_entities.specs.declared.store.Entities.{Entities}
+use Rattle.cedar_policy_set.specs.Entries.{Entries}
+use Rattle.cedar_requests.specs.Holding.{RequestParts}
 use Rattle.cedar_evaluator.specs.Holding.{holding_in}
 use Rattle.cedar_evaluator.specs.declared.errors.ConcretizationError.TheVariants as concretization
 use Rattle.cedar_evaluator.specs.declared.errors.ReauthorizationError.{ReauthorizationError}
 use Rattle.cedar_evaluator.specs.declared.errors.ReauthorizationError.TheVariants as reauthorization
 use Rattle.cedar_evaluator.specs.declared.partial_response.PartialResponse.{PartialResponse}
 use Rattle.cedar_extensions.specs.Failures.{failure_of}
+use Rattle.cedar_extensions.specs.Table.{Table}
 use Rattle.cedar_replies.specs.Replies.{answer_of}
 use Rattle.cedar_replies.specs.declared.answer.Answer.{Answer}
 use Rattle.cedar_replies.specs.declared.error_kind.ErrorKind.{ErrorKind}
 use Rattle.cedar_replies.specs.declared.refusal.Refusal.{Refusal}
 use Rattle.cedar_replies.specs.declared.refusal.Refusal.TheVariants.{Evaluation, Depth, Memory}
+use Rattle.cedar_asking.specs.Answering.{AreOf}
 use Rattle.cedar_asking.specs.Erring.{SomeAtLimit}
-use Rattle.cedar_asking.specs.Keeping.{KeepsQuestion}
+use Rattle.cedar_asking.specs.Keeping.{AreTold, IsNamed, KeepsQuestion}
 use Rattle.cedar_asking.specs.Laws.{SaysHeld}
 use Rattle.cedar_asking.specs.TellLaws.{IsAnsweredLater}
+use Rattle.cedar_telling.specs.Requests.{IsRequestOf}
 use Rattle.cedar_telling.specs.Tells.{told_in}
 
 -- the answer has the decision, the ids and the errors of what the response holds; or some error met the limit
@@ -57,6 +64,12 @@ AnswersAsked by world q (Err Depth) = SomeInForce world × AsksTooDeep by world 
 AnswersAsked by world q (Err Memory) = ⊤
 AnswersAsked by world q (Err r) = ⊥
 
+-- the answer to each question that makes such a request, in each world whose policies and entities these are
+abbrev pub AnswersRequest : Table → ℕ → Entries → Entities → RequestParts → Result (PartialResponse × Answer) Refusal → Type 0
+AnswersRequest table depth policies store request result =
+    (by : Setting) (world : World) (q : Question) → AreOf by world policies store table depth → IsRequestOf by table q request → IsNamed q.context →
+    AnswersAsked by world q result
+
 -- the context errs, the limit was met, or memory ran out; nothing else is refused of values that are of their unknowns' kinds
 abbrev pub IsToldAs : ReauthorizationError → Refusal → Type 0
 IsToldAs (reauthorization.ConcretizationError (concretization.ValueEval e)) r = r ≡ refusal_by (failure_of e)
@@ -72,3 +85,10 @@ AnswersTold by world q first old told last (Err Evaluation) = context_errs by q.
 AnswersTold by world q first old told last (Err Depth) = (SomeInForce world ⊎ HasOpenContext q) × TellsTooDeep by world q (told_in told)
 AnswersTold by world q first old told last (Err Memory) = ⊤
 AnswersTold by world q first old told last (Err r) = ⊥
+
+-- the answer once all of this is told, for each question that was kept with less of it, in each world whose entities these are
+abbrev pub AnswersAgain : Table → ℕ → PartialResponse → List (RcStr Global × Value) → answers.Answer → Entities → Result Answer Refusal → Type 0
+AnswersAgain table depth first told last store result =
+    (by : Setting) (world : World) (q : Question) (old : List (RcStr Global × Value)) (policies : Entries) →
+    KeepsQuestion by world q first old last → AreOf by world policies store table depth → AreTold q told → Extends (told_in old) (told_in told) →
+    AnswersTold by world q first old told last result

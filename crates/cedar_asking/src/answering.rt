@@ -1,26 +1,14 @@
 // The answer to a request, and the one once more is told.
-ghost use Rattle.std.specs.declared.rc.RcStr.{RcStr as Name};
-ghost use Rattle.std.specs.declared.alloc.Global.{Global as Memory};
-ghost use Rattle.std.specs.Prelude.{◌≡◌, List, IfOk};
+ghost use Rattle.std.specs.Prelude.{◌≡◌, IfOk};
 ghost use Rattle.cedar_extensions.specs.Table.{as_table};
 ghost use Rattle.cedar_evaluator.specs.Holding.{holding_in};
 ghost use Rattle.cedar_evaluator.specs.Responses.{judged_held};
 ghost use Rattle.cedar_language.specs.Answering.{in_must, in_may};
-ghost use Rattle.cedar_language.specs.Value.{Value as Valued};
-ghost use Rattle.cedar_partial_evaluation.specs.Question.{Extends};
-ghost use Rattle.cedar_policy_set.specs.Entries.{Entries};
 ghost use Rattle.cedar_replies.specs.Replies.{answer_of};
 ghost use Rattle.cedar_requests.specs.Holding.{request_parts};
 ghost use Rattle.cedar_world.specs.Answer.{ids_of};
 ghost use Rattle.cedar_language.specs.Answering.{ids_with};
-ghost use Rattle.cedar_world.specs.Asking.{Question};
-ghost use Rattle.cedar_world.specs.Setting.{Setting};
-ghost use Rattle.cedar_world.specs.World.{World};
-ghost use Rattle.cedar_asking.specs.Answering.{AreOf};
-ghost use Rattle.cedar_asking.specs.Keeping.{IsNamed, AreTold, KeepsQuestion};
-ghost use Rattle.cedar_telling.specs.Requests.{IsRequestOf};
-ghost use Rattle.cedar_asking.specs.Responses.{SaysResponse, AnswersAsked, AnswersTold, IsToldAs};
-ghost use Rattle.cedar_telling.specs.Tells.{told_in};
+ghost use Rattle.cedar_asking.specs.Responses.{SaysResponse, AnswersAgain, AnswersRequest, IsToldAs};
 
 use crate::listing::listed_errors;
 use crate::{
@@ -86,7 +74,7 @@ pub fn answer<F: ExtensionFunctionObject>(
     extensions: &Extensions<'_, F>,
     depth: u32,
 ) -> Result<(PartialResponse, Answer), Refusal>
-    ensures { (by : Setting) (world : World) (q : Question) → AreOf by world policies.now entities.now (as_table F.answers extensions.now) depth → IsRequestOf by (as_table F.answers extensions.now) q (request_parts request) → IsNamed q.context → AnswersAsked by world q result }
+    ensures { AnswersRequest (as_table F.answers extensions.now) depth policies.now entities.now (request_parts request) result }
 {
     cedar_world::worlds_have_facts();
     worlds_are_shown();
@@ -131,7 +119,7 @@ pub fn answer_told<F: ExtensionFunctionObject>(
     extensions: &Extensions<'_, F>,
     depth: u32,
 ) -> Result<Answer, Refusal>
-    ensures { (by : Setting) (world : World) (q : Question) (old : List (Name Memory × Valued)) (es : Entries) → KeepsQuestion by world q first.now old (answer_of last.now) → AreOf by world es entities.now (as_table F.answers extensions.now) depth → AreTold q told.now.entries → Extends (told_in old) (told_in told.now.entries) → AnswersTold by world q first.now old told.now.entries (answer_of last.now) result }
+    ensures { AnswersAgain (as_table F.answers extensions.now) depth first.now told.now.entries (answer_of last.now) entities.now result }
 {
     tells_are_answered();
     tells_are_refused();

@@ -28,7 +28,7 @@ use Rattle.cedar_extensions.specs.Table.{Table}
 use Rattle.cedar_extensions.specs.declared.evaluation_error.EvaluationError.{EvaluationError}
 use Rattle.cedar_interpreter.specs.Asking.{is_known_in, IsHeldOf}
 use Rattle.cedar_evaluator.specs.Asking.{Inquiry, request_held, IsEvaluatorOf}
-use Rattle.cedar_interpreter.specs.Holding.{held_by}
+use Rattle.cedar_interpreter.specs.Holding.{held_by, Knows, Serves, ServesRead}
 use Rattle.cedar_interpreter.specs.declared.evaluator.Evaluator.{Evaluator}
 use Rattle.cedar_evaluator.specs.Evaluations.{Found, Satisfied, Unsatisfied, Open, Finds, found_read, IsServed, IsServedRead}
 use Rattle.cedar_evaluator.specs.Scopes.{AreScopesOf}
@@ -41,6 +41,18 @@ condition_of p = grammar.condition (policy_syntax p)
 -- the scope of a policy holds
 abbrev pub IsInScope : {F : Type 0} → Evaluator F → Facts → Policy → Type 0
 IsInScope ev facts p = partial_in facts (held_by ev (bindings_of p)) (scope_tree (policy_syntax p)) ≡ Evaluated (Plain (Boolean true))
+
+-- so it is over facts that serve an evaluator, where the scope of the policy holds
+abbrev pub InScope : {F : Type 0} → (F → FunctionAnswers) → Evaluator F → Policy → (Facts → LeafAnswers → Type 0) → Type 0
+InScope answers ev p says = (facts : Facts) → Serves answers ev facts (condition_of p) → IsInScope ev facts p → says facts (held_by ev (bindings_of p))
+
+-- the same over facts that the evaluator knows
+abbrev pub InScopeKnown : {F : Type 0} → (F → FunctionAnswers) → Evaluator F → Policy → (Facts → LeafAnswers → Type 0) → Type 0
+InScopeKnown answers ev p says = (facts : Facts) → Knows answers ev facts → IsInScope ev facts p → says facts (held_by ev (bindings_of p))
+
+-- the same where calls of `unknown` are read as unknowns
+abbrev pub InScopeRead : {F : Type 0} → (F → FunctionAnswers) → Evaluator F → Policy → (Facts → LeafAnswers → Type 0) → Type 0
+InScopeRead answers ev p says = (facts : Facts) → ServesRead answers ev facts (condition_of p) → IsInScope ev facts p → says facts (held_by ev (bindings_of p))
 
 -- satisfied or not, or what is left of the condition
 abbrev pub found_by : Either Bool (Expr (Unit {0})) → Found

@@ -1,22 +1,20 @@
 // How a policy stands for a request: its scope is looked at first, since most scopes don't hold, and then
 // nothing else of the policy is read.
-ghost use Rattle.std.specs.Prelude.{◌<◌, ◌≤◌, ℕ};
+ghost use Rattle.std.specs.Prelude.{◌<◌, ◌≤◌};
 ghost use Rattle.cedar_language.specs.Facts.{Facts};
 ghost use Rattle.cedar_partial_evaluation.specs.Partial.{partial_in};
 ghost use Rattle.cedar_partial_evaluation.specs.ReadUnknowns.{read_unknowns};
-ghost use Rattle.cedar_entities.specs.declared.store.Entities.{Entities as Store};
-ghost use Rattle.cedar_extensions.specs.Table.{Table};
 ghost use Rattle.cedar_operators.specs.Store.{HasFacts};
-ghost use Rattle.cedar_evaluator.specs.Asking.{Inquiry, request_held, IsEvaluatorOf};
+ghost use Rattle.cedar_evaluator.specs.Asking.{request_held};
 ghost use Rattle.cedar_interpreter.specs.Depths.{evaluation_depth};
-ghost use Rattle.cedar_interpreter.specs.Holding.{held_by, Knows, Serves, ServesRead, is_naming, depth_of};
+ghost use Rattle.cedar_interpreter.specs.Holding.{is_naming, depth_of};
 ghost use Rattle.cedar_interpreter.specs.Meeting.{IsLimit};
 ghost use Rattle.cedar_interpreter.specs.Naming.{naming_depth};
 ghost use Rattle.cedar_policies.specs.Policies.{bindings_of};
-ghost use Rattle.cedar_evaluator.specs.Evaluating.{condition_of, IsInScope, JudgesAt, JudgesBy, JudgesReadAt, JudgesReadBy};
+ghost use Rattle.cedar_evaluator.specs.Evaluating.{condition_of, InScope, InScopeKnown, InScopeRead, JudgesAt, JudgesBy, JudgesReadAt, JudgesReadBy};
 ghost use Rattle.cedar_evaluator.specs.Evaluations.{IsServedRead, IsTooDeep, NestsTooDeep, IsTooDeepRead};
 ghost use Rattle.cedar_evaluator.specs.Grouping.{ForEach};
-ghost use Rattle.cedar_evaluator.specs.Scopes.{IsDecided, AreScopesOf};
+ghost use Rattle.cedar_evaluator.specs.Scopes.{IsDecided};
 
 use crate::evaluation::{EvaluatePolicy, judged};
 use crate::scopes::Scopes;
@@ -38,10 +36,10 @@ pub(crate) fn told<F: ExtensionFunctionObject>(
     scopes: &Scopes<'_>,
     policy: &Policy,
 ) -> Option<bool>
-    ensures found { (i : Inquiry) (store : Store) (table : Table) (depth : ℕ) → IsEvaluatorOf F.answers i store table depth evaluator.now → AreScopesOf i store scopes.now →
-        (facts : Facts) → HasFacts store facts → IsDecided facts (request_held i (bindings_of policy.now)) (condition_of policy.now) result }
-    ensures read { (i : Inquiry) (store : Store) (table : Table) (depth : ℕ) → IsEvaluatorOf F.answers i store table depth evaluator.now → AreScopesOf i store scopes.now →
-        (facts : Facts) → IsServedRead i store table depth facts (condition_of policy.now) → IsDecided facts (request_held i (bindings_of policy.now)) (read_unknowns (condition_of policy.now)) result }
+    ensures found { ForEach F.answers evaluator.now scopes.now (λ i store table depth.
+        (facts : Facts) → HasFacts store facts → IsDecided facts (request_held i (bindings_of policy.now)) (condition_of policy.now) result) }
+    ensures read { ForEach F.answers evaluator.now scopes.now (λ i store table depth.
+        (facts : Facts) → IsServedRead i store table depth facts (condition_of policy.now) → IsDecided facts (request_held i (bindings_of policy.now)) (read_unknowns (condition_of policy.now)) result) }
 {
     unknowns_are_read();
     match scopes.hold(policy) {
@@ -80,11 +78,11 @@ fn in_scope<F: ExtensionFunctionObject>(
     evaluator: &Evaluator<'_, '_, '_, F>,
     policy: &Policy,
 ) -> Result<Either<bool, Expr>, EvaluationError>
-    ensures found { (facts : Facts) → Serves F.answers evaluator.now facts (condition_of policy.now) → IsInScope evaluator.now facts policy.now → JudgesAt (partial_in facts (held_by evaluator.now (bindings_of policy.now)) (condition_of policy.now)) result }
-    ensures limit { IsLimit result → (facts : Facts) → Serves F.answers evaluator.now facts (condition_of policy.now) → IsInScope evaluator.now facts policy.now → depth_of evaluator.now < evaluation_depth facts (held_by evaluator.now (bindings_of policy.now)) (condition_of policy.now) }
-    ensures named_limit { IsLimit result → (facts : Facts) → Knows F.answers evaluator.now facts → IsInScope evaluator.now facts policy.now → depth_of evaluator.now < naming_depth (is_naming F.answers evaluator.now) facts (held_by evaluator.now (bindings_of policy.now)) (condition_of policy.now) }
-    ensures read { (facts : Facts) → ServesRead F.answers evaluator.now facts (condition_of policy.now) → IsInScope evaluator.now facts policy.now → JudgesReadAt (partial_in facts (held_by evaluator.now (bindings_of policy.now)) (read_unknowns (condition_of policy.now))) result }
-    ensures read_limit { IsLimit result → (facts : Facts) → ServesRead F.answers evaluator.now facts (condition_of policy.now) → IsInScope evaluator.now facts policy.now → depth_of evaluator.now ≤ evaluation_depth facts (held_by evaluator.now (bindings_of policy.now)) (read_unknowns (condition_of policy.now)) }
+    ensures found { InScope F.answers evaluator.now policy.now (λ facts holds. JudgesAt (partial_in facts holds (condition_of policy.now)) result) }
+    ensures limit { IsLimit result → InScope F.answers evaluator.now policy.now (λ facts holds. depth_of evaluator.now < evaluation_depth facts holds (condition_of policy.now)) }
+    ensures named_limit { IsLimit result → InScopeKnown F.answers evaluator.now policy.now (λ facts holds. depth_of evaluator.now < naming_depth (is_naming F.answers evaluator.now) facts holds (condition_of policy.now)) }
+    ensures read { InScopeRead F.answers evaluator.now policy.now (λ facts holds. JudgesReadAt (partial_in facts holds (read_unknowns (condition_of policy.now))) result) }
+    ensures read_limit { IsLimit result → InScopeRead F.answers evaluator.now policy.now (λ facts holds. depth_of evaluator.now ≤ evaluation_depth facts holds (read_unknowns (condition_of policy.now))) }
 {
     unknowns_are_read();
     match policy.non_scope_constraints() {

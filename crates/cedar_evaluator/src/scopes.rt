@@ -4,11 +4,10 @@ ghost use Rattle.std.specs.Prelude.{◌≡◌, ℕ, Some, true, false};
 ghost use Rattle.std.specs.List.{list_any};
 ghost use Rattle.std.specs.Option.{option_map, option_copied};
 ghost use Rattle.cedar_language.specs.Facts.{Facts};
-ghost use Rattle.cedar_language.specs.Meaning.{slot_outcome};
 ghost use Rattle.cedar_language.specs.Order.{same_uid};
-ghost use Rattle.cedar_language.specs.Tree.{Variable, Principal, Action, Resource, SlotId as Slot, PrincipalSlot, ResourceSlot};
-ghost use Rattle.cedar_grammar.specs.Policy.{constraint_tree, action_tree, scope_tree};
-ghost use Rattle.cedar_partial_evaluation.specs.Partial.{LeafAnswers, answer_of};
+ghost use Rattle.cedar_language.specs.Tree.{Action};
+ghost use Rattle.cedar_grammar.specs.Policy.{constraint_tree, action_tree};
+ghost use Rattle.cedar_partial_evaluation.specs.Partial.{LeafAnswers};
 ghost use Rattle.cedar_grammar.specs.Scopes.{action_meets};
 ghost use Rattle.cedar_policy_parts.specs.Actions.{action_of, held_uids};
 ghost use Rattle.cedar_policy_parts.specs.Asked.{constraint_of};
@@ -16,10 +15,10 @@ ghost use Rattle.cedar_entities.specs.declared.store.Entities.{Entities as Store
 ghost use Rattle.cedar_extensions.specs.Table.{Table};
 ghost use Rattle.cedar_operators.specs.Hierarchy.{is_within_entity};
 ghost use Rattle.cedar_operators.specs.Store.{HasFacts};
-ghost use Rattle.cedar_evaluator.specs.Asking.{Inquiry, request_held, IsEvaluatorOf};
-ghost use Rattle.cedar_policies.specs.Policies.{bindings_of, policy_syntax};
+ghost use Rattle.cedar_evaluator.specs.Asking.{Inquiry, IsEvaluatorOf};
 ghost use Rattle.cedar_policy_set.specs.ScopeNaming.{is_settled};
-ghost use Rattle.cedar_evaluator.specs.Scopes.{IsDecided, IsTold, IsGivenAs, AreScopesOf, constraint_met, unasked};
+ghost use Rattle.cedar_evaluator.specs.Scopes.{IsDecided, IsTold, IsGivenAs, AreScopesOf, Decides, WhereAsked, WhereGiven};
+ghost use Rattle.cedar_evaluator.specs.Scopes.{action_asked, constraint_met, principal_asked, resource_asked, scope_asked, unasked};
 
 use cedar_entities::store::Entities;
 use cedar_extensions::objects::ExtensionFunctionObject;
@@ -126,7 +125,7 @@ fn part_meets(
     constraint: &PrincipalOrResourceConstraint,
     bound: Option<&EntityUID>,
 ) -> Option<bool>
-    ensures { (facts : Facts) (store : Store) (holds : LeafAnswers) (v : Variable) (s : Slot) → HasFacts store facts → IsGivenAs store (holds.variable v) given.now → holds.slot s ≡ answer_of (slot_outcome (option_copied bound.entry)) → IsDecided facts holds (constraint_tree v s (constraint_of constraint.now)) result }
+    ensures { WhereGiven given.now (option_copied bound.entry) (λ facts holds v s. IsDecided facts holds (constraint_tree v s (constraint_of constraint.now)) result) }
 {
     match given {
         Some(entity) => meets(entity, constraint, bound),
@@ -154,7 +153,7 @@ fn is_part_told(
     constraint: &PrincipalOrResourceConstraint,
     bound: Option<&EntityUID>,
 ) -> bool
-    ensures { (facts : Facts) (store : Store) (holds : LeafAnswers) (v : Variable) (s : Slot) → HasFacts store facts → IsGivenAs store (holds.variable v) given.now → holds.slot s ≡ answer_of (slot_outcome (option_copied bound.entry)) → result ≡ true → IsTold facts holds (constraint_tree v s (constraint_of constraint.now)) }
+    ensures { WhereGiven given.now (option_copied bound.entry) (λ facts holds v s. result ≡ true → IsTold facts holds (constraint_tree v s (constraint_of constraint.now))) }
 {
     match given {
         Some(_) => is_settled(constraint, bound),
@@ -199,7 +198,7 @@ impl<'v> Scopes<'v> {
 
     #[inline(always)]
     fn principal_meets(&self, policy: &Policy) -> Option<bool>
-        ensures { (i : Inquiry) (store : Store) (facts : Facts) → AreScopesOf i store self.now → HasFacts store facts → IsDecided facts (request_held i (bindings_of policy.now)) (constraint_tree Principal PrincipalSlot (policy_syntax policy.now).principal) result }
+        ensures { Decides self.now policy.now principal_asked result }
     {
         let constraint = policy.template().principal_constraint();
         let bound = policy.env().get(&SlotId::principal());
@@ -208,14 +207,14 @@ impl<'v> Scopes<'v> {
 
     #[inline(always)]
     fn action_meets(&self, policy: &Policy) -> Option<bool>
-        ensures { (i : Inquiry) (store : Store) (facts : Facts) → AreScopesOf i store self.now → HasFacts store facts → IsDecided facts (request_held i (bindings_of policy.now)) (action_tree (policy_syntax policy.now).action) result }
+        ensures { Decides self.now policy.now action_asked result }
     {
         action_meets(&self.action, policy.action_constraint())
     }
 
     #[inline(always)]
     fn resource_meets(&self, policy: &Policy) -> Option<bool>
-        ensures { (i : Inquiry) (store : Store) (facts : Facts) → AreScopesOf i store self.now → HasFacts store facts → IsDecided facts (request_held i (bindings_of policy.now)) (constraint_tree Resource ResourceSlot (policy_syntax policy.now).resource) result }
+        ensures { Decides self.now policy.now resource_asked result }
     {
         let constraint = policy.template().resource_constraint();
         let bound = policy.env().get(&SlotId::resource());
@@ -225,7 +224,7 @@ impl<'v> Scopes<'v> {
     // Whether it is told of the principal that it is as the scope asks, or that it isn't. Nothing is looked up.
     #[inline(always)]
     fn is_principal_told(&self, policy: &Policy) -> bool
-        ensures { (i : Inquiry) (store : Store) (facts : Facts) → AreScopesOf i store self.now → HasFacts store facts → result ≡ true → IsTold facts (request_held i (bindings_of policy.now)) (constraint_tree Principal PrincipalSlot (policy_syntax policy.now).principal) }
+        ensures { WhereAsked self.now policy.now (λ facts holds. result ≡ true → IsTold facts holds (principal_asked policy.now)) }
     {
         let constraint = policy.template().principal_constraint();
         let bound = policy.env().get(&SlotId::principal());
@@ -237,7 +236,7 @@ impl<'v> Scopes<'v> {
     // The action is looked at first: of the policies that are found by the principal most ask for another one.
     #[inline(always)]
     pub(crate) fn hold(&self, policy: &Policy) -> Option<bool>
-        ensures { (i : Inquiry) (store : Store) (facts : Facts) → AreScopesOf i store self.now → HasFacts store facts → IsDecided facts (request_held i (bindings_of policy.now)) (scope_tree (policy_syntax policy.now)) result }
+        ensures { Decides self.now policy.now scope_asked result }
     {
         match self.action_meets(policy) {
             Some(true) => self.hold_for_action(policy),
@@ -249,7 +248,7 @@ impl<'v> Scopes<'v> {
     // The same of a policy whose scope the action meets.
     #[inline(always)]
     fn hold_for_action(&self, policy: &Policy) -> Option<bool>
-        ensures { (i : Inquiry) (store : Store) (facts : Facts) → AreScopesOf i store self.now → HasFacts store facts → IsDecided facts (request_held i (bindings_of policy.now)) (action_tree (policy_syntax policy.now).action) (Some true) → IsDecided facts (request_held i (bindings_of policy.now)) (scope_tree (policy_syntax policy.now)) result }
+        ensures { WhereAsked self.now policy.now (λ facts holds. IsDecided facts holds (action_asked policy.now) (Some true) → IsDecided facts holds (scope_asked policy.now) result) }
     {
         match self.principal_meets(policy) {
             Some(true) => self.resource_meets(policy),
@@ -261,7 +260,7 @@ impl<'v> Scopes<'v> {
     // The same of a policy whose scope the action doesn't meet: false, once the principal before it is told.
     #[inline(always)]
     fn fail_for_action(&self, policy: &Policy) -> Option<bool>
-        ensures { (i : Inquiry) (store : Store) (facts : Facts) → AreScopesOf i store self.now → HasFacts store facts → IsDecided facts (request_held i (bindings_of policy.now)) (action_tree (policy_syntax policy.now).action) (Some false) → IsDecided facts (request_held i (bindings_of policy.now)) (scope_tree (policy_syntax policy.now)) result }
+        ensures { WhereAsked self.now policy.now (λ facts holds. IsDecided facts holds (action_asked policy.now) (Some false) → IsDecided facts holds (scope_asked policy.now) result) }
     {
         if self.is_principal_told(policy) {
             Some(false)
@@ -272,7 +271,7 @@ impl<'v> Scopes<'v> {
 
     // The same where the action isn't told: the principal alone decides, where it doesn't meet the scope.
     fn hold_by_principal(&self, policy: &Policy) -> Option<bool>
-        ensures { (i : Inquiry) (store : Store) (facts : Facts) → AreScopesOf i store self.now → HasFacts store facts → IsDecided facts (request_held i (bindings_of policy.now)) (scope_tree (policy_syntax policy.now)) result }
+        ensures { Decides self.now policy.now scope_asked result }
     {
         match self.principal_meets(policy) {
             Some(false) => Some(false),

@@ -31,7 +31,8 @@ pub(crate) fn told_besides<F: ExtensionFunctionObject>(
     extensions: &Extensions<'_, F>,
     depth: u32,
 ) -> Result<BTreeMap<RcStr, Value>, Refusal>
-    ensures { (by : Setting) (q : Question) → Serves (as_table F.answers extensions.now) by (holds_call (restricted_tree body.now)) → world.ask_body (body_tree asked.now.body) ≡ Some q → TellsBody by q (told_in asked.now.told.entries) depth (restricted_tree body.now) result }
+    ensures { (by : Setting) (q : Question) → Serves (as_table F.answers extensions.now) by (holds_call (restricted_tree body.now)) →
+        world.ask_body (body_tree asked.now.body) ≡ Some q → TellsBody by q (told_in asked.now.told.entries) depth (restricted_tree body.now) result }
 {
     match &asked.body {
         AskedBody::Written(question) => {
