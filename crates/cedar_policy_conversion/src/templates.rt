@@ -101,7 +101,15 @@ fn sharing_template_of(
     ensures syntax { IfOk result (λ made. syntax_of made ≡ parts_syntax parts) }
     ensures lists { IfOk result (λ made. listed_slots made ≡ slots (syntax_of made)) }
 {
-    let clauses = match parts.clauses {
+    let Parts {
+        effect,
+        annotations,
+        principal,
+        action,
+        resource,
+        clauses,
+    } = parts;
+    let clauses = match clauses {
         Some(clauses) => Some(Rc::new(alloc, clauses)?),
         None => None,
     };
@@ -109,11 +117,11 @@ fn sharing_template_of(
         alloc,
         id,
         loc.cloned()?,
-        common.of_annotations(alloc, parts.annotations)?,
-        parts.effect,
-        common.of_principal(alloc, &parts.principal)?,
-        common.of_action(alloc, &parts.action)?,
-        common.of_resource(alloc, &parts.resource)?,
+        common.of_annotations(alloc, annotations)?,
+        effect,
+        common.of_principal(alloc, &principal)?,
+        common.of_action(alloc, &action)?,
+        common.of_resource(alloc, &resource)?,
         clauses,
     )
 }
