@@ -1,5 +1,6 @@
 pub mod Gathering
 pub mod Joining
+mod Alike
 mod Making
 mod Ordering
 mod OwnNotes

@@ -18,7 +18,8 @@ ghost use Rattle.std.proofs.Props.{props};
 
 use crate::PolicyError;
 use crate::numbers::numbered_id;
-use crate::policies::to_policy_or_template;
+use crate::policies::to_sharing_policy_or_template;
+use crate::sharing::SharedParts;
 use cedar_cst::cst;
 use cedar_cst::node::Node;
 use cedar_faults::{ConversionError, ExtStyles, flatten_tuple_2};
@@ -33,6 +34,7 @@ use std::alloc::Global;
 #[derive(Drop)]
 pub struct GatheredPolicies {
     set: Result<PolicySet, PolicyError>,
+    common: SharedParts,
     ghost free: { IfOk set LeavesFree } by { Prim.hlevel props },
 }
 
@@ -45,6 +47,7 @@ impl GatheredPolicies {
     {
         GatheredPolicies {
             set: Ok(PolicySet::new(alloc)),
+            common: SharedParts::new(alloc),
         }
     }
 
@@ -57,9 +60,12 @@ impl GatheredPolicies {
     ) -> GatheredPolicies
         ensures { (before : List loose.Policy) → AreGathered styles.now before self → AreGathered styles.now (before ++ shown_policy node.now ∷ []) result }
     {
-        GatheredPolicies {
-            set: with_node(alloc, self.set, node, styles),
-        }
+        let GatheredPolicies {
+            set: earlier,
+            mut common,
+        } = self;
+        let set = with_node(alloc, earlier, node, styles, &mut common);
+        GatheredPolicies { set, common }
     }
 
     /// The set of all, or their faults in order.
@@ -118,6 +124,7 @@ fn with_node(
     earlier: Result<PolicySet, PolicyError>,
     node: &Node<Option<cst::Policy>>,
     styles: &ExtStyles,
+    common: &mut SharedParts,
 ) -> Result<PolicySet, PolicyError>
     requires { IfOk earlier LeavesFree }
     ensures set { (before : Option Entries) → Finds (λ set. set) earlier before →
@@ -127,7 +134,7 @@ fn with_node(
     ensures told { IfErr result (λ error. TellsOnly error (λ kind. Told earlier kind ⊎ policy_shows styles.now (shown_policy node.now) kind)) }
 {
     let id = numbered_id(alloc, next_number(&earlier))?;
-    let next = to_policy_or_template(alloc, node, id, styles);
+    let next = to_sharing_policy_or_template(alloc, node, id, styles, common);
     let (set, policy) = flatten_tuple_2(earlier, next)?;
     with_policy(alloc, set, policy)
 }

@@ -17,6 +17,7 @@ mod policies;
 mod references;
 mod scopes;
 mod sets;
+mod sharing;
 mod templates;
 mod variables;
 

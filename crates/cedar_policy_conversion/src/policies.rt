@@ -13,7 +13,8 @@ ghost use Rattle.cedar_policy_conversion.specs.Shows.{policy_shows, slots_show, 
 ghost use Rattle.cedar_policy_conversion.specs.Kinds.{without_slots, with_slots, entry_made, id_made, ListsSlots};
 
 use crate::PolicyError;
-use crate::templates::to_template;
+use crate::sharing::SharedParts;
+use crate::templates::{to_sharing_template, to_template};
 use cedar_cst::cst;
 use cedar_cst::node::Node;
 use cedar_faults::{ConversionError, ExtStyles, ToASTErrorKind};
@@ -113,5 +114,22 @@ pub fn to_policy_or_template(
     ensures shown { IfErr result (λ error. TellsOnly error (policy_shows styles.now (shown_policy node.now))) }
 {
     let template = to_template(alloc, node, id, styles)?;
+    Ok(sorted(template))
+}
+
+/// As `to_policy_or_template`, for one of many policies that share what `common` keeps.
+pub(crate) fn to_sharing_policy_or_template(
+    alloc: Global,
+    node: &Node<Option<cst::Policy>>,
+    id: PolicyID,
+    styles: &ExtStyles,
+    common: &mut SharedParts,
+) -> Result<Either<StaticPolicy, Template>, PolicyError>
+    ensures syntax { Finds entry_made result (option_map text_entry (policy_syntax styles.now (shown_policy node.now))) }
+    ensures id { IfOk result (λ either. id_made either ≡ id) }
+    ensures lists { IfOk result ListsSlots }
+    ensures shown { IfErr result (λ error. TellsOnly error (policy_shows styles.now (shown_policy node.now))) }
+{
+    let template = to_sharing_template(alloc, node, id, styles, common)?;
     Ok(sorted(template))
 }

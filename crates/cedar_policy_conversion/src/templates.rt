@@ -9,6 +9,7 @@ ghost use Rattle.cedar_faults.specs.Telling.{TellsOnly};
 ghost use Rattle.cedar_policy_conversion.specs.Parts.{parts_syntax};
 ghost use Rattle.cedar_policy_conversion.specs.Shows.{policy_shows};
 
+use crate::sharing::SharedParts;
 use crate::{PolicyError, extract_scope, to_annotations, to_clauses, to_effect};
 use cedar_cst::cst;
 use cedar_cst::cst::PolicyImpl;
@@ -23,6 +24,7 @@ use cedar_policy_parts::resources::ResourceConstraint;
 use cedar_policy_parts::{Effect, PolicyID};
 use cedar_trees::expr::Expr;
 use std::alloc::{AllocError, Global};
+use std::rc::Rc;
 
 // What a policy is made of.
 #[derive(Drop)]
@@ -87,10 +89,62 @@ fn template_of(
     )
 }
 
+// The same, which shares what `common` keeps.
+fn sharing_template_of(
+    alloc: Global,
+    id: PolicyID,
+    loc: Option<&Loc>,
+    parts: Parts,
+    common: &mut SharedParts,
+) -> Result<Template, AllocError>
+    ensures id { IfOk result (λ made. template_id made ≡ id) }
+    ensures syntax { IfOk result (λ made. syntax_of made ≡ parts_syntax parts) }
+    ensures lists { IfOk result (λ made. listed_slots made ≡ slots (syntax_of made)) }
+{
+    let Parts {
+        effect,
+        annotations,
+        principal,
+        action,
+        resource,
+        clauses,
+    } = parts;
+    let clauses = match clauses {
+        Some(clauses) => Some(Rc::new(alloc, clauses)?),
+        None => None,
+    };
+    Template::new_shared(
+        alloc,
+        id,
+        loc.cloned()?,
+        common.of_annotations(alloc, annotations)?,
+        effect,
+        common.of_principal(alloc, &principal)?,
+        common.of_action(alloc, &action)?,
+        common.of_resource(alloc, &resource)?,
+        clauses,
+    )
+}
+
+// The parts of a policy, or the faults of all.
+#[tactic(auto, unfolding(cedar_grammar::specs::Converting::policy_syntax))]
+fn parts_of(
+    alloc: Global,
+    node: &Node<Option<cst::Policy>>,
+    styles: &ExtStyles,
+) -> Result<Parts, PolicyError>
+    ensures syntax { Finds parts_syntax result (policy_syntax styles.now (shown_policy node.now)) }
+    ensures shown { IfErr result (λ error. TellsOnly error (policy_shows styles.now (shown_policy node.now))) }
+{
+    let Some(cst::Policy::Policy(policy)) = &node.node else {
+        return Err(ConversionError::missing(alloc, node.loc()));
+    };
+    to_parts(alloc, policy, node.loc(), styles)
+}
+
 /// A policy, with or without slots, under an id. It lists the slots of its scope and its clauses. The faults of
 /// all its parts are gathered: its annotations, its effect, its scope and its clauses. (Cedar language
 /// reference, "Policy syntax".)
-#[tactic(auto, unfolding(cedar_grammar::specs::Converting::policy_syntax))]
 pub fn to_template(
     alloc: Global,
     node: &Node<Option<cst::Policy>>,
@@ -102,9 +156,23 @@ pub fn to_template(
     ensures lists { IfOk result (λ template. listed_slots template ≡ slots (syntax_of template)) }
     ensures shown { IfErr result (λ error. TellsOnly error (policy_shows styles.now (shown_policy node.now))) }
 {
-    let Some(cst::Policy::Policy(policy)) = &node.node else {
-        return Err(ConversionError::missing(alloc, node.loc()));
-    };
-    let parts = to_parts(alloc, policy, node.loc(), styles)?;
+    let parts = parts_of(alloc, node, styles)?;
     Ok(template_of(alloc, id, node.loc(), parts)?)
+}
+
+/// As `to_template`, for one of many policies that share what `common` keeps.
+pub(crate) fn to_sharing_template(
+    alloc: Global,
+    node: &Node<Option<cst::Policy>>,
+    id: PolicyID,
+    styles: &ExtStyles,
+    common: &mut SharedParts,
+) -> Result<Template, PolicyError>
+    ensures syntax { Finds syntax_of result (policy_syntax styles.now (shown_policy node.now)) }
+    ensures id { IfOk result (λ template. template_id template ≡ id) }
+    ensures lists { IfOk result (λ template. listed_slots template ≡ slots (syntax_of template)) }
+    ensures shown { IfErr result (λ error. TellsOnly error (policy_shows styles.now (shown_policy node.now))) }
+{
+    let parts = parts_of(alloc, node, styles)?;
+    Ok(sharing_template_of(alloc, id, node.loc(), parts, common)?)
 }

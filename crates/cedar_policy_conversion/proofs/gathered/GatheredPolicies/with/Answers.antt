@@ -13,6 +13,6 @@ returns c before gathered =
     let names = c.args.styles.now in
     let p = shown_policy c.args.node.now in
     record {
-      set = subst (Finds (λ set. set) c.with_node.result) (sym (entries_more names before p)) (c.with_node.ensures.set (entries_of names before) gathered.set);
-      shown = told_or c.args.self.set c.with_node.result (each_policy_shows names (before ++ p ∷ [])) (policy_shows names p) (told_more c.args.self.set (each_policy_shows names before) (each_policy_shows names (before ++ p ∷ [])) (show_before names before p) gathered.shown) c.with_node.ensures.told (show_last names before p);
+      set = subst (Finds (λ set. set) c.with_node-set.result) (sym (entries_more names before p)) (c.with_node-set.ensures.set (entries_of names before) gathered.set);
+      shown = told_or c.args.self.set c.with_node-set.result (each_policy_shows names (before ++ p ∷ [])) (policy_shows names p) (told_more c.args.self.set (each_policy_shows names before) (each_policy_shows names (before ++ p ∷ [])) (show_before names before p) gathered.shown) c.with_node-set.ensures.told (show_last names before p);
     }
