@@ -19,7 +19,7 @@ impl<'t> Reader<'t> {
     fn expect_key(&mut self, key: &str) -> Result<(), Unread>
         ensures { IfOk result (λ _. ReadsKeyOf key.now self.old self.new) }
     {
-        let found = self.key()?;
+        let found = self.plain_key()?;
         if !is_same(found, key) {
             return Err(Unread::Other);
         }
