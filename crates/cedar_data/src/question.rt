@@ -88,8 +88,9 @@ impl<'t> Reader<'t> {
 /// its action, its resource and its context in this order, the context made of literals and of records of them.
 ///
 /// It is a short way for plain texts, beside [`read_data`](crate::read_data), which makes a tree of them: `None` says
-/// nothing of the text. What is written so without comments, escapes and parentheses is read here, and its names of types are
-/// shared with those that texts spelled before; refused for memory alone. (Cedar language reference, "Request".)
+/// nothing of the text. What is written so without comments, parentheses and escapes in its own four keys is read here,
+/// and its names of types are shared with those that texts spelled before; refused for memory alone. (Cedar language
+/// reference, "Request".)
 pub fn read_question(
     alloc: Global,
     text: &str,

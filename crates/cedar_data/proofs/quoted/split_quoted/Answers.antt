@@ -1,7 +1,5 @@
 -- What stands between two quotes, and the white space behind them.
-use Rattle.std.proofs.Common.{◌≡◌, ◌∙◌, suc, get_or, take, drop, sym, ap, subst, arith}
-use Rattle.std.specs.Str.{IsCharBoundary}
-use Rattle.std.proofs.lemmas.Str.{IsCharBoundary-before_ascii}
+use Rattle.std.proofs.Common.{◌≡◌, ◌∙◌, get_or, take, drop, ap, subst, arith}
 use Rattle.cedar_grammar.specs.Tokens.{quote}
 use Rattle.cedar_data.specs.Quoted.{IsInside}
 use Rattle.cedar_data.specs.Takes.{Skips}
