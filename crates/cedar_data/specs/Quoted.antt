@@ -1,5 +1,5 @@
 -- What stands between quotes.
-use Rattle.std.specs.Prelude.{◌≡◌, ◌<◌, ℕ, suc, List, length, take, drop, slice_index}
+use Rattle.std.specs.Prelude.{◌≡◌, ◌<◌, ℕ, suc, length, take, drop, slice_index}
 use Rattle.std.specs.Str.{chars}
 use Rattle.cedar_language.specs.Uid.{Text}
 use Rattle.cedar_grammar.specs.Tokens.{Inside, quote}
