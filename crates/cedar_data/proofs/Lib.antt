@@ -1,6 +1,7 @@
 pub mod Ascii
 pub mod Tokens
 pub mod Strings
+pub mod Insides
 pub mod Cuts
 pub mod Rules
 pub mod Spelled

@@ -80,6 +80,12 @@ pub data IsKey : Token → Text → Type 0 where
   id_key : {w : token.Word} {k : Text} → token.id_of w ≡ Some k → IsKey (word w) k
   text_key : {raw : List ℕ} {k : Text} → string_of raw ≡ Some k → IsKey (text raw) k
 
+-- the text begins with a string that stands for this one
+pub record ReadsString (bytes written rest : Text) : Type 0 where
+  pub raw : List ℕ
+  pub takes : Takes (text raw) bytes rest
+  pub is : string_of raw ≡ Some written
+
 -- the text begins with the key of an entry
 pub record ReadsKey (bytes key rest : Text) : Type 0 where
   pub written : Token

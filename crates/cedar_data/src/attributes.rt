@@ -97,8 +97,7 @@ impl<'t> Reader<'t> {
     ) -> Result<(), Unread>
         ensures { OnOk result (AddsAttribute levels self.old attributes.old.entries attributes.new.entries self.new) }
     {
-        let spelling = self.key()?;
-        let key = RcStr::from_str(alloc, spelling)?;
+        let key = self.key(alloc)?;
         self.expect_colon()?;
         let value = self.simple_value(alloc, types, levels)?;
         put_new(attributes, key, value)?;

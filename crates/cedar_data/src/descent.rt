@@ -128,7 +128,7 @@ impl<'t> Reader<'t> {
         let path = self.path(alloc, types, first)?;
         match path {
             Path::EntityType(entity_type) => {
-                let id = self.string()?;
+                let id = self.string(alloc)?;
                 let uid = uid_of(alloc, entity_type, id)?;
                 Ok(Expr::val(Literal::EntityUID(uid)))
             }
@@ -201,8 +201,7 @@ impl<'t> Reader<'t> {
     ) -> Result<(RcStr, Expr), Unread>
         ensures { IfOk result (λ entry. ReadsEntry styles.now levels self.old entry self.new) }
     {
-        let spelling = self.key()?;
-        let key = RcStr::from_str(alloc, spelling)?;
+        let key = self.key(alloc)?;
         self.expect_colon()?;
         let value = self.data(alloc, styles, types, levels)?;
         Ok((key, value))

@@ -1,5 +1,6 @@
 // Numbers, names and entities.
 ghost use Rattle.std.specs.Prelude.{◌≡◌, ◌≢◌, ◌<◌, ◌≤◌, ◌^◌, Bool, IfOk, IfNone, IfSome, codes, cond, pos, neg_ℤ};
+ghost use Rattle.std.specs.Rc.{rc_str_bytes};
 ghost use Rattle.cedar_language.specs.Tree as tree;
 ghost use Rattle.cedar_grammar.specs.Build.{long};
 ghost use Rattle.cedar_literals.specs.Literals.{literal_of};
@@ -34,10 +35,10 @@ pub enum Path {
 const TOO_LARGE: u64 = 0x8000_0000_0000_0000;
 
 /// The uid of this type and id; refused for memory alone.
-pub fn uid_of(alloc: Global, entity_type: Name, id: &str) -> Result<Rc<EntityUID>, AllocError>
-    ensures { IfOk result (λ uid. uid.value ≡ record { type_name = entity_type; id = id.now }) }
+pub fn uid_of(alloc: Global, entity_type: Name, id: RcStr) -> Result<Rc<EntityUID>, AllocError>
+    ensures { IfOk result (λ uid. uid.value ≡ record { type_name = entity_type; id = rc_str_bytes id }) }
 {
-    let eid = Eid::new(RcStr::from_str(alloc, id)?);
+    let eid = Eid::new(id);
     let uid = EntityUID::from_components(EntityType::from(entity_type), eid, None);
     Ok(Rc::new(alloc, uid)?)
 }
@@ -87,8 +88,8 @@ impl<'t> Reader<'t> {
     fn string_literal(&mut self, alloc: Global) -> Result<Literal, Unread>
         ensures { IfOk result (λ l. ReadsLeaf self.old (tree.Lit (literal_of l)) self.new) }
     {
-        let text = self.string()?;
-        Ok(Literal::String(RcStr::from_str(alloc, text)?))
+        let text = self.string(alloc)?;
+        Ok(Literal::String(text))
     }
 
     // Takes a number, which has to be next.
@@ -150,11 +151,24 @@ impl<'t> Reader<'t> {
     }
 
     /// Takes the key of an entry, which has to be next: an identifier or a string.
-    pub fn key(&mut self) -> Result<&'t str, Unread>
+    pub fn key(&mut self, alloc: Global) -> Result<RcStr, Unread>
+        ensures { IfOk result (λ key. ReadsKey self.old (rc_str_bytes key) self.new) }
+    {
+        if self.next_byte() == b'"' {
+            let text = self.string(alloc)?;
+            Ok(text)
+        } else {
+            let id = self.identifier()?;
+            Ok(RcStr::from_str(alloc, id)?)
+        }
+    }
+
+    /// Takes the key of an entry, which has to be next: an identifier or a string without escapes.
+    pub fn plain_key(&mut self) -> Result<&'t str, Unread>
         ensures { IfOk result (λ key. ReadsKey self.old key.now self.new) }
     {
         if self.next_byte() == b'"' {
-            let raw = self.string()?;
+            let raw = self.plain_string()?;
             Ok(raw)
         } else {
             let id = self.identifier()?;

@@ -8,6 +8,7 @@ mod given;
 mod leaves;
 mod names;
 mod question;
+mod quoted;
 mod reader;
 mod reading;
 mod runs;

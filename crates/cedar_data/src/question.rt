@@ -19,7 +19,7 @@ impl<'t> Reader<'t> {
     fn expect_key(&mut self, key: &str) -> Result<(), Unread>
         ensures { IfOk result (λ _. ReadsKeyOf key.now self.old self.new) }
     {
-        let found = self.key()?;
+        let found = self.plain_key()?;
         if !is_same(found, key) {
             return Err(Unread::Other);
         }
@@ -88,8 +88,9 @@ impl<'t> Reader<'t> {
 /// its action, its resource and its context in this order, the context made of literals and of records of them.
 ///
 /// It is a short way for plain texts, beside [`read_data`](crate::read_data), which makes a tree of them: `None` says
-/// nothing of the text. What is written so without comments, escapes and parentheses is read here, and its names of types are
-/// shared with those that texts spelled before; refused for memory alone. (Cedar language reference, "Request".)
+/// nothing of the text. What is written so without comments, parentheses and escapes in its own four keys is read here,
+/// and its names of types are shared with those that texts spelled before; refused for memory alone. (Cedar language
+/// reference, "Request".)
 pub fn read_question(
     alloc: Global,
     text: &str,

@@ -1,19 +1,25 @@
 // What of a text is left to read.
 ghost use Rattle.std.specs.Prelude.{◌≡◌, [], ◌↔◌, IfOk, Some, true, slice_index, IsTrue};
 ghost use Rattle.std.specs.Char.{is_ascii_digit};
+ghost use Rattle.std.specs.Rc.{rc_str_bytes};
 ghost use Rattle.std.specs.Str.{chars};
 ghost use Rattle.std.specs.Str.Parse.{digits_value};
 ghost use Rattle.cedar_grammar.specs.Escape.{string_of};
 ghost use Rattle.cedar_grammar.specs.Token.{word, number, text as string_token, mark, Colon, ColonColon, word_of};
 ghost use Rattle.cedar_data.specs.Classes.{mark_of};
+ghost use Rattle.cedar_data.specs.Data.{ReadsString};
 ghost use Rattle.cedar_data.specs.Takes.{Skips, Takes, Ate};
 
+use crate::quoted::split_quoted;
 use crate::texts::{
     Sign, byte_at, skip_blank, split_colon, split_digits, split_separator, split_sign,
     split_string, split_word,
 };
 use crate::unread::Unread;
+use cedar_tokens::{UnescapeError, to_unescaped_string};
+use std::alloc::Global;
 use std::marker::Model;
+use std::rc::RcStr;
 
 /// What of a text is left to read.
 #[derive(Drop)]
@@ -128,7 +134,7 @@ impl<'t> Reader<'t> {
     }
 
     /// Takes a string without escapes, which has to be next: what stands between its quotes.
-    pub fn string(&mut self) -> Result<&'t str, Unread>
+    pub fn plain_string(&mut self) -> Result<&'t str, Unread>
         ensures taken { IfOk result (λ raw. Takes (string_token (chars raw.now)) self.old self.new) }
         ensures plain { IfOk result (λ raw. string_of (chars raw.now) ≡ Some raw.now) }
     {
@@ -137,5 +143,35 @@ impl<'t> Reader<'t> {
         };
         self.rest = rest;
         Ok(raw)
+    }
+
+    // Takes a string with escapes, which has to be next: the text that it stands for.
+    fn escaped_string(&mut self, alloc: Global) -> Result<RcStr, Unread>
+        ensures { IfOk result (λ text. ReadsString self.old (rc_str_bytes text) self.new) }
+    {
+        let Some((raw, rest)) = split_quoted(self.rest) else {
+            return Err(Unread::Other);
+        };
+        match to_unescaped_string(alloc, raw) {
+            Ok(text) => {
+                self.rest = rest;
+                Ok(text)
+            }
+            Err(UnescapeError::Invalid { .. }) => Err(Unread::Other),
+            Err(UnescapeError::Memory) => Err(Unread::Memory),
+        }
+    }
+
+    /// Takes a string, which has to be next: the text that it stands for. (Cedar language reference, "Data types": String.)
+    pub fn string(&mut self, alloc: Global) -> Result<RcStr, Unread>
+        ensures { IfOk result (λ text. ReadsString self.old (rc_str_bytes text) self.new) }
+    {
+        match split_string(self.rest) {
+            Some((plain, rest)) => {
+                self.rest = rest;
+                Ok(RcStr::from_str(alloc, plain)?)
+            }
+            None => Ok(self.escaped_string(alloc)?),
+        }
     }
 }

@@ -13,7 +13,7 @@ use std::alloc::{AllocError, Global};
 /// called: `true` and `false`, longs, strings, entities, lists, records and calls.
 ///
 /// It is a short way for plain texts, beside the parser: `None` says nothing of the text. What is written so
-/// without comments, escapes and parentheses is read here; refused for memory alone.
+/// without comments and parentheses is read here; refused for memory alone.
 pub fn read_data(
     alloc: Global,
     text: &str,

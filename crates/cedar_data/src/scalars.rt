@@ -32,7 +32,7 @@ impl<'t> Reader<'t> {
         let path = self.path(alloc, types, first)?;
         match path {
             Path::EntityType(entity_type) => {
-                let id = self.string()?;
+                let id = self.string(alloc)?;
                 Ok(uid_of(alloc, entity_type, id)?)
             }
             Path::Called(_) => Err(Unread::Other),

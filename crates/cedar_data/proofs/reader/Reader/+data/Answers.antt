@@ -2,7 +2,6 @@
 use Rattle.std.proofs.Common.{◌≡◌, ◌∙◌, suc, ◌-◌, length, map, sym, ap, subst, arith}
 use Rattle.std.proofs.lemmas.List.{map_push}
 use Rattle.std.specs.Rc.{rc_str_bytes}
-use Rattle.std.specs.Str.{chars}
 use Rattle.cedar_language.specs.Tree.{Tree, Lit, Entity}
 use Rattle.cedar_grammar.specs.Build.{Keyed}
 use Rattle.cedar_grammar.specs.Grammar.{Entry, Unary, Within, inner}
@@ -10,7 +9,7 @@ use Rattle.cedar_grammar.specs.Token as token
 use Rattle.cedar_grammar.specs.Token.{mark}
 use Rattle.cedar_trees.specs.Bare.{bare, bare_entries}
 use Rattle.cedar_data.specs.Classes.{mark_of}
-use Rattle.cedar_data.specs.Data.{IsData, ReadsTree, ReadsKey, ReadsPathTo}
+use Rattle.cedar_data.specs.Data.{IsData, ReadsTree, ReadsPathTo}
 use Rattle.cedar_data.specs.Takes.{Takes, Reads}
 use Rattle.cedar_data.proofs.Rules.{within, boolean_read, entity_read}
 use Rattle.cedar_data.proofs.Lists.{none_so_far, closed, last_closed, one_more, all_and, list_read, record_read, call_read, entry_read}
@@ -39,7 +38,7 @@ named-returns-in-Some t c =
 pub used-returns-in_ok-uid-in-EntityType : goal.used-returns-in_ok-uid-in-EntityType
 used-returns-in_ok-uid-in-EntityType t c =
     let path = subst (λ p. ReadsPathTo c.args.first.now c.args.self.now p c.path.new.self) c.in-EntityType.is c.in_ok-path.ensures in
-    entity_read c.args.first.now c.args.self.now (inner c.args.styles.now c.args.levels) c.args.levels c.in-EntityType.entity_type c.path.new.self c.string.new.self (chars c.in_ok-id-in-EntityType.id.now) c.in_ok-id-in-EntityType.id.now _ path c.in_ok-id-in-EntityType.ensures.taken c.in_ok-id-in-EntityType.ensures.plain
+    entity_read c.args.first.now c.args.self.now (inner c.args.styles.now c.args.levels) c.args.levels c.in-EntityType.entity_type c.path.new.self c.string.new.self c.in_ok-id-in-EntityType.ensures.raw (rc_str_bytes c.in_ok-id-in-EntityType.id) _ path c.in_ok-id-in-EntityType.ensures.takes c.in_ok-id-in-EntityType.ensures.is
     (c.val.ensures ∙ ap (λ u. Lit (Entity u)) c.in_ok-uid-in-EntityType.ensures)
 
 pub used-returns-in_ok-call_extension_fn-in-Called : goal.used-returns-in_ok-call_extension_fn-in-Called
@@ -140,6 +139,6 @@ pub entry-returns : goal.entry-returns
 entry-returns t c = record {
   reads =
       entry_read (Within c.args.styles.now c.args.levels) c.args.self.now c.key.new.self c.expect_colon.new.self c.data.new.self (rc_str_bytes c.in_ok-key.key) (bare c.in_ok-value.value)
-      (subst (λ k. ReadsKey c.args.self.now k c.key.new.self) (sym c.in_ok-key.ensures.ok) c.in_ok-spelling.ensures) c.in_ok-expect_colon.ensures c.in_ok-value.ensures.reads;
+      c.in_ok-key.ensures c.in_ok-expect_colon.ensures c.in_ok-value.ensures.reads;
   is_data = c.in_ok-value.ensures.is_data;
 }

@@ -4,7 +4,6 @@ use Rattle.std.specs.Rc.{rc_str_bytes}
 use Rattle.cedar_grammar.specs.Token as token
 use Rattle.cedar_grammar.specs.Token.{mark}
 use Rattle.cedar_literals.specs.Literals.{literal_of}
-use Rattle.cedar_data.specs.Data.{ReadsKey}
 use Rattle.cedar_data.specs.Questions.{AddsAttribute, ReadsAttributes}
 use Rattle.cedar_data.specs.Takes.{Takes}
 use Rattle.cedar_data.proofs.ReadAttributes.{nothing_read, attributes_closed, attribute_more, attribute_last, record_of_attributes, attributes_read, scalar_read, attribute_read}
@@ -53,4 +52,4 @@ attributes-returns t c = attributes_closed c.args.levels c.args.self.now c.entri
 pub attribute-returns : goal.attribute-returns
 attribute-returns t c =
     attribute_read c.args.levels c.args.self.now c.key.new.self c.expect_colon.new.self c.simple_value.new.self (rc_str_bytes c.in_ok-key.key) c.in_ok-value.value c.args.attributes.now.entries c.put_new.new.attributes.entries
-    (subst (λ k. ReadsKey c.args.self.now k c.key.new.self) (sym c.in_ok-key.ensures.ok) c.in_ok-spelling.ensures) c.in_ok-expect_colon.ensures c.in_ok-value.ensures c.in_ok-put_new.ensures
+    c.in_ok-key.ensures c.in_ok-expect_colon.ensures c.in_ok-value.ensures c.in_ok-put_new.ensures

@@ -7,4 +7,4 @@ use Rattle.cedar_data.proofs.reader.Reader.expect_key.Goals as goal
 pub returns : goal.returns
 returns c =
     let same = same_key c.in_ok-found.found.now c.args.key.now (sym c.is_same.ensures ∙ c.if-not-is_same.false) in
-    record { behind = c.key.new.self; reads = subst (λ k. ReadsKey c.args.self.now k c.key.new.self) same c.in_ok-found.ensures; colon = c.in_ok-expect_colon.ensures }
+    record { behind = c.plain_key.new.self; reads = subst (λ k. ReadsKey c.args.self.now k c.plain_key.new.self) same c.in_ok-found.ensures; colon = c.in_ok-expect_colon.ensures }
