@@ -5,6 +5,7 @@ pub mod Covering
 pub mod Explaining
 pub mod Faults
 pub mod Names
+pub mod Pasts
 pub mod Places
 pub mod RefusedBodies
 pub mod ScriptFaults

@@ -17,9 +17,8 @@ ghost use Rattle.cedar_authoring.specs.Titles.{titled, titled_text};
 use crate::awaiting::{awaited, listed, once, push_standing};
 use crate::checking::{DEPTH, Report, refuse_unread};
 use crate::giving::{Refused, Source, read_source, tell_refusal};
-use crate::held::tell_one;
-use crate::origins::Origin;
-use crate::places::Places;
+use crate::held::Held;
+use crate::past::Past;
 use cedar_extensions::objects::ExtensionFunctionObject;
 use cedar_parser::strict::parse_policyset;
 use cedar_policy_parts::annotations::Annotations;
@@ -195,22 +194,9 @@ fn tell_policies<F: ExtensionFunctionObject>(
 ) -> Result<(), AllocError>
     ensures { OnOk result (Adds (TellsPolicies source.entry.name.now (world_of session.now).policies response.now ids.now) (string_bytes told.old) (string_bytes told.new)) }
 {
-    let untold = once(session.untold()?);
-    let policies = session.policies();
-    let places = Places::of(alloc, source.text)?;
-    let origin = Origin::of(source.name, &places);
-    for id in ids {
-        tell_one(
-            alloc,
-            told,
-            origin,
-            policies,
-            response,
-            id,
-            untold.as_slice(),
-        )?;
-    }
-    Ok(())
+    let past = Past::of_text(alloc, source.name, source.text)?;
+    let held = Held::of(alloc, session, response)?;
+    held.tell_each(alloc, told, &past, ids)
 }
 
 /// Until a name is told for which what is left of policies waits, none is told that stands there; and until then, a

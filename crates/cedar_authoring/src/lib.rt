@@ -35,6 +35,7 @@ mod shapes;
 mod standing;
 mod telling;
 mod value_faults;
+mod witness;
 mod wrong;
 
 pub use at_line::explained_at;

@@ -1,6 +1,7 @@
 // What the commands of a script did before a line.
 ghost use Rattle.std.specs.Prelude.{◌≡◌, ◌++◌, ◌∷◌, [], map, IfOk, IfSome, OnOk};
 ghost use Rattle.cedar_evaluator.specs.Holding.{error_seen};
+ghost use Rattle.cedar_authoring.specs.Pasts.{IsNamed, IsOfText};
 ghost use Rattle.cedar_authoring.specs.ScriptQuestions.{TakesUp};
 
 use crate::checking::DEPTH;
@@ -33,9 +34,11 @@ pub(crate) struct Past<'t> {
     loads: Vec<Load<'t>>,
     // Which of the loads it was.
     loaded: PolicyMap<usize>,
-    // That of no text.
-    nowhere: Places<'t>,
+    // Of what no command loaded.
+    text: Places<'t>,
     question: &'t str,
+    // What was told of it, but for the texts that are yet to be read.
+    told: BTreeMap<RcStr, Value>,
     tells: Vec<&'t str>,
 }
 
@@ -49,12 +52,25 @@ struct Load<'t> {
 impl<'t> Past<'t> {
     /// Nothing yet, of the script that is named so. Refused for memory alone.
     pub(crate) fn new(alloc: Global, script: &'t str) -> Result<Past<'t>, AllocError> {
+        Past::of_text(alloc, script, "")
+    }
+
+    /// That all comes from one text, which is named so. Refused for memory alone.
+    pub(crate) fn of_text(
+        alloc: Global,
+        name: &'t str,
+        text: &'t str,
+    ) -> Result<Past<'t>, AllocError>
+        ensures alone { IfOk result (λ past. IsOfText past) }
+        ensures name { IfOk result (λ past. past.script.now ≡ name.now) }
+    {
         Ok(Past {
-            script,
+            script: name,
             loads: Vec::new(alloc),
             loaded: PolicyMap::new(alloc),
-            nowhere: Places::of(alloc, "")?,
+            text: Places::of(alloc, text)?,
             question: "",
+            told: BTreeMap::new(alloc),
             tells: Vec::new(alloc),
         })
     }
@@ -68,7 +84,7 @@ impl<'t> Past<'t> {
     ) -> Result<(), AllocError> {
         match reply {
             Reply::Ids(ids) => self.add_load(alloc, step, ids.as_slice()),
-            Reply::Answer(_) => self.add_question(step),
+            Reply::Answer(_) => self.add_question(alloc, step),
             Reply::Done => Ok(()),
         }
     }
@@ -89,26 +105,29 @@ impl<'t> Past<'t> {
     }
 
     /// Adds a command that asks or tells.
-    pub(crate) fn add_question(&mut self, step: &'t Step) -> Result<(), AllocError> {
+    pub(crate) fn add_question(&mut self, alloc: Global, step: &'t Step) -> Result<(), AllocError> {
         let text = step.body.as_str();
         if let Verb::Tell = step.verb {
             self.tells.push(text)?;
         } else {
             self.question = text;
+            self.told = BTreeMap::new(alloc);
             self.tells.clear();
         }
         Ok(())
     }
 
     /// Where the policy or the template of this id comes from; of a link, its template.
-    pub(crate) fn origin_of(&self, policies: &PolicySet, id: &PolicyID) -> Origin<'_, 't> {
+    pub(crate) fn origin_of(&self, policies: &PolicySet, id: &PolicyID) -> Origin<'_, 't>
+        ensures { IsNamed self.now result.name.now }
+    {
         let id = match policies.get(id) {
             Some(policy) => policy.template().id(),
             None => id,
         };
         match self.load_of(id) {
             Some(load) => Origin::of_step(self.script, load.step, &load.places),
-            None => Origin::of(self.script, &self.nowhere),
+            None => Origin::of(self.script, &self.text),
         }
     }
 
@@ -132,9 +151,9 @@ impl<'t> Past<'t> {
     }
 
     /// The response to the open question taken up again with all that was told since, its errors kept; None where nothing
-    /// was. Refused for memory alone.
+    /// was. Reads each text that tells once. Refused for memory alone.
     pub(crate) fn retold<F: ExtensionFunctionObject>(
-        &self,
+        &mut self,
         alloc: Global,
         extensions: &Extensions<'_, F>,
         entities: &Entities,
@@ -142,29 +161,32 @@ impl<'t> Past<'t> {
     ) -> Result<Option<PartialResponse>, AllocError>
         ensures { IfOk result (λ retold. IfSome retold (λ response. TakesUp first.now response)) }
     {
-        if self.tells.is_empty() {
+        self.read_tells(alloc, extensions)?;
+        if self.told.is_empty() {
             return Ok(None);
         }
-        let told = self.told(alloc, extensions)?;
         let authorizer = Authorizer::new(extensions, DEPTH);
-        match first.reauthorize(alloc, &told, &authorizer, entities) {
+        match first.reauthorize(alloc, &self.told, &authorizer, entities) {
             Ok(again) => Ok(Some(with_errors(alloc, again, first.errors.as_slice())?)),
             Err(_) => Err(AllocError),
         }
     }
 
-    /// What was told of the open question. Refused for memory alone.
-    fn told<F: ExtensionFunctionObject>(
-        &self,
+    /// Reads what was told of the open question since this was last done. Refused for memory alone.
+    fn read_tells<F: ExtensionFunctionObject>(
+        &mut self,
         alloc: Global,
         extensions: &Extensions<'_, F>,
-    ) -> Result<BTreeMap<RcStr, Value>, AllocError> {
-        let question = body_of(alloc, extensions, self.question)?;
-        let mut told = BTreeMap::new(alloc);
-        for text in &self.tells {
-            told = told_besides(alloc, extensions, &question, &told, text)?;
+    ) -> Result<(), AllocError> {
+        if self.tells.is_empty() {
+            return Ok(());
         }
-        Ok(told)
+        let question = body_of(alloc, extensions, self.question)?;
+        for text in &self.tells {
+            self.told = told_besides(alloc, extensions, &question, &self.told, text)?;
+        }
+        self.tells.clear();
+        Ok(())
     }
 }
 
