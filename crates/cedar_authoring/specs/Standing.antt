@@ -5,8 +5,8 @@ use Rattle.cedar_language.specs.Order.{same_text}
 use Rattle.cedar_language.specs.Uid.{Text}
 use Rattle.cedar_evaluator.specs.Holding.{error_seen}
 use Rattle.cedar_evaluator.specs.declared.partial_response.PartialResponse.{PartialResponse}
-use Rattle.cedar_authoring.specs.declared.places.Position.{Position}
-use Rattle.cedar_authoring.specs.Telling.{line_of, AreBelow, IsLine}
+use Rattle.cedar_messages.specs.declared.places.Position.{Position}
+use Rattle.cedar_messages.specs.Telling.{line_of, AreBelow, IsLine}
 
 -- a group of policies has one of this id
 abbrev pub is_in : {V : Type 0} → Text → List (Text × V) → Bool

@@ -5,21 +5,21 @@ ghost use Rattle.cedar_replies.specs.declared.refusal.Refusal.TheVariants as ref
 ghost use Rattle.cedar_replies.specs.Replies.{answer_of};
 ghost use Rattle.cedar_session.specs.Sessions.{setting_of, world_of};
 ghost use Rattle.cedar_session.specs.Settings.{setting_with};
-ghost use Rattle.cedar_authoring.specs.declared.scripts.script.Step.{Step};
+ghost use Rattle.cedar_messages.specs.Telling.{Adds};
+ghost use Rattle.cedar_scripts.specs.declared.script.Step.{Step};
 ghost use Rattle.cedar_authoring.specs.Explaining.{status_of};
 ghost use Rattle.cedar_authoring.specs.ScriptQuestions.{asks, AsksAt, GoesOn, GoesThrough, IsStopped, IsUnasked, StandsBehind, StopsAmong, TellsAnswer, TellsAsked, TellsExplainedAt, TellsOpen, TellsStandings};
 ghost use Rattle.cedar_authoring.specs.Scripts.{HasStep};
-ghost use Rattle.cedar_authoring.specs.Telling.{Adds};
 
-use crate::checking::{DEPTH, Report};
 use crate::expecting::{is_expected, unless_memory};
 use crate::explaining::{answer_line, status_of, tell_names};
 use crate::held::Held;
 use crate::past::Past;
-use crate::scripts::{Script, Step};
 use crate::wrong::tell_wrong;
 use cedar_extensions::objects::ExtensionFunctionObject;
 use cedar_held::worlds::policy_sets_are_worlds;
+use cedar_refusals::checking::{DEPTH, Report};
+use cedar_scripts::{Script, Step};
 use cedar_session::{
     Answer, BODY_LIMIT, Command, Extensions, PartialResponse, PolicyID, PolicySet, Refusal, Reply,
     Session, Verb,

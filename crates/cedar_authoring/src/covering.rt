@@ -2,22 +2,22 @@
 ghost use Rattle.std.specs.Prelude.{◌≡◌, ◌||◌, ◌++◌, ◌∷◌, [], List, string_bytes, IfOk, OnOk};
 ghost use Rattle.cedar_evaluator.specs.declared.partial_response.PartialResponse.{PartialResponse as Response};
 ghost use Rattle.cedar_session.specs.Settings.{setting_with};
+ghost use Rattle.cedar_messages.specs.Telling.{Adds, TellsEach};
 ghost use Rattle.cedar_authoring.specs.Covering.{Keeps, TellsCovered, gap_of};
 ghost use Rattle.cedar_authoring.specs.Scripts.{Went};
-ghost use Rattle.cedar_authoring.specs.Telling.{Adds, TellsEach};
 
-use crate::checking::DEPTH;
 use crate::origins::Origin;
 use crate::past::Past;
 use crate::running::{Outcome, run_witnessed};
 use crate::scopes::{Asker, is_in_scope};
-use crate::scripts::{Step, Test};
 use crate::standing::{Standing, is_satisfied};
-use crate::telling::heading;
 use crate::witness::Witness;
 use cedar_extensions::objects::ExtensionFunctionObject;
+use cedar_messages::telling::heading;
 use cedar_policies::policies::Policy;
 use cedar_policy_set::policy_map::PolicyMap;
+use cedar_refusals::checking::DEPTH;
+use cedar_scripts::{Step, Test};
 use cedar_session::{Extensions, PartialResponse, PolicyID, Session};
 use std::alloc::{AllocError, Global};
 

@@ -4,21 +4,21 @@ ghost use Rattle.cedar_held.specs.PolicyWorlds.{policies_in};
 ghost use Rattle.cedar_policies.specs.Templates.{template_id};
 ghost use Rattle.cedar_policy_set.specs.Texts.{AreToldBySlots};
 ghost use Rattle.cedar_session.specs.Sessions.{world_of};
-ghost use Rattle.cedar_authoring.specs.Checks.{TellsPolicy};
+ghost use Rattle.cedar_messages.specs.Telling.{Adds, TellsEach};
+ghost use Rattle.cedar_refusals.specs.Checks.{TellsPolicy};
 ghost use Rattle.cedar_authoring.specs.Explaining.{TellsOne};
 ghost use Rattle.cedar_authoring.specs.Pasts.{TellsOneOf};
-ghost use Rattle.cedar_authoring.specs.Telling.{Adds, TellsEach};
 
-use crate::awaiting::once;
-use crate::listing::described;
 use crate::origins::Origin;
 use crate::past::Past;
 use crate::standing::{Standing, tell_standing};
-use crate::telling::{on_one_line, tell_line};
 use cedar_extensions::objects::ExtensionFunctionObject;
 use cedar_held::worlds::policy_sets_are_worlds;
+use cedar_messages::telling::{on_one_line, tell_line};
 use cedar_policies::templates::Template;
 use cedar_policy_set::policy_map::PolicyMap;
+use cedar_refusals::listing::described;
+use cedar_refusals::naming::once;
 use cedar_session::{PartialResponse, PolicyID, PolicySet, Session};
 use std::alloc::{AllocError, Global};
 

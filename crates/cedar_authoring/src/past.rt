@@ -4,19 +4,19 @@ ghost use Rattle.cedar_evaluator.specs.Holding.{error_seen};
 ghost use Rattle.cedar_authoring.specs.Pasts.{IsNamed, IsOfText};
 ghost use Rattle.cedar_authoring.specs.ScriptQuestions.{TakesUp};
 
-use crate::checking::DEPTH;
 use crate::origins::Origin;
-use crate::places::Places;
 use crate::scopes::Asker;
-use crate::scripts::Step;
 use cedar_evaluator::evaluator::evaluator_of;
 use cedar_evaluator::{AuthorizationError, Authorizer};
 use cedar_extensions::objects::ExtensionFunctionObject;
+use cedar_messages::places::Places;
 use cedar_parser::ExtStyles;
 use cedar_parser::prelude::StylesOfExtensions;
 use cedar_parser::strict::parse_restrictedexpr;
 use cedar_policy_set::policy_map::PolicyMap;
+use cedar_refusals::checking::DEPTH;
 use cedar_restricted::restricted::RestrictedExpr;
+use cedar_scripts::Step;
 use cedar_session::{
     Entities, Extensions, PartialResponse, PolicyID, PolicySet, Reply, Session, Verb,
 };

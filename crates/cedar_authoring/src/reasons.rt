@@ -1,12 +1,12 @@
 // What is told of an answer that isn't expected: why policies err, and that an open question has no context.
 ghost use Rattle.std.specs.Prelude.{string_bytes, IfOk, OnOk};
-ghost use Rattle.cedar_authoring.specs.Telling.{Adds, AreBelow};
+ghost use Rattle.cedar_messages.specs.Telling.{Adds, AreBelow};
 
-use crate::awaiting::stands;
 use crate::standing::error_of;
-use crate::telling::push_indented;
 use cedar_extensions::evaluation_error::EvaluationError;
 use cedar_extensions::objects::ExtensionFunctionObject;
+use cedar_messages::telling::push_indented;
+use cedar_refusals::naming::stands;
 use cedar_session::{Answer, ErrorKind, PolicyID, Session};
 use std::alloc::{AllocError, Global};
 

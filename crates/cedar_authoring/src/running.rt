@@ -2,17 +2,17 @@
 ghost use Rattle.std.specs.Prelude.{◌≡◌, ◌⊎◌, ◌++◌, ◌&&◌, All, false, string_bytes, IfNone, IfOk, IfSome, OnOk};
 ghost use Rattle.cedar_session.specs.Settings.{setting_with};
 ghost use Rattle.cedar_session.specs.Sessions.{setting_of, world_of};
+ghost use Rattle.cedar_messages.specs.Telling.{Adds, AreBelow};
 ghost use Rattle.cedar_authoring.specs.Scripts.{AreAnswered, Fits, FitsCommand, IsAnswered, Passes, TellsLong, TellsScript, TellsTest, Went};
-ghost use Rattle.cedar_authoring.specs.Telling.{Adds, AreBelow};
 
-use crate::checking::{DEPTH, Report};
 use crate::expecting::{first_long, is_expected, long_among, tell_test};
 use crate::reasons::tell_reasons;
-use crate::scripts::{Script, Step, Test};
-use crate::telling::push_indented;
 use crate::witness::Witness;
 use crate::wrong::tell_wrong;
 use cedar_extensions::objects::ExtensionFunctionObject;
+use cedar_messages::telling::push_indented;
+use cedar_refusals::checking::{DEPTH, Report};
+use cedar_scripts::{Script, Step, Test};
 use cedar_session::{Command, Extensions, Refusal, Reply, Session};
 use std::alloc::{AllocError, Global};
 

@@ -3,17 +3,18 @@ ghost use Rattle.std.specs.Prelude.{◌≡◌, is_some, string_bytes, IfOk, OnOk
 ghost use Rattle.cedar_evaluator.specs.Holding.{error_seen};
 ghost use Rattle.cedar_evaluator.specs.declared.partial_response.PartialResponse.{PartialResponse as Response};
 ghost use Rattle.cedar_policies.specs.Policies.{policy_id};
+ghost use Rattle.cedar_messages.specs.Telling.{Adds, AreBelow};
 ghost use Rattle.cedar_authoring.specs.Standing.{is_in, is_open, is_satisfied, standing_words, TellsStanding};
 ghost use Rattle.cedar_authoring.specs.StandingWords.{words_of};
-ghost use Rattle.cedar_authoring.specs.Telling.{Adds, AreBelow};
 
-use crate::awaiting::{awaited, listed, push_standing};
-use crate::listing::described;
+use crate::awaiting::{awaited, push_standing};
 use crate::origins::Origin;
-use crate::telling::{push_indented, tell_line};
 use cedar_evaluator::AuthorizationError;
 use cedar_extensions::evaluation_error::EvaluationError;
+use cedar_messages::telling::{push_indented, tell_line};
 use cedar_policies::policies::Policy;
+use cedar_refusals::listing::described;
+use cedar_refusals::naming::listed;
 use cedar_session::{PartialResponse, PolicyID};
 use cedar_trees::expr::Expr;
 use std::alloc::{AllocError, Global};

@@ -2,8 +2,8 @@
 
 use crate::covering::Coverage;
 use crate::past::Past;
-use crate::scripts::Step;
 use cedar_extensions::objects::ExtensionFunctionObject;
+use cedar_scripts::Step;
 use cedar_session::{Extensions, Refusal, Reply, Session};
 use std::alloc::{AllocError, Global};
 

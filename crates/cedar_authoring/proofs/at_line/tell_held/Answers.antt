@@ -4,8 +4,8 @@ use Rattle.cedar_session.specs.Sessions.{world_of}
 use Rattle.cedar_world.specs.World.{Policies}
 use Rattle.cedar_authoring.specs.Explaining.{TellsOne}
 use Rattle.cedar_authoring.specs.ScriptQuestions.{TellsHeld}
-use Rattle.cedar_authoring.specs.Telling.{Adds}
-use Rattle.cedar_authoring.proofs.Told.{Adds-more}
+use Rattle.cedar_messages.specs.Telling.{Adds}
+use Rattle.cedar_messages.proofs.Told.{Adds-more}
 use Rattle.cedar_authoring.proofs.at_line.tell_held.Goals as goal
 
 pub loop-id-preserved : goal.loop-id-preserved

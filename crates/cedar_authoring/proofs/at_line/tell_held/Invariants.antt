@@ -1,7 +1,7 @@
 use Rattle.std.proofs.Common.{take, string_bytes}
 use Rattle.cedar_session.specs.Sessions.{world_of}
 use Rattle.cedar_authoring.specs.ScriptQuestions.{TellsHeld}
-use Rattle.cedar_authoring.specs.Telling.{Adds, TellsEach}
+use Rattle.cedar_messages.specs.Telling.{Adds, TellsEach}
 use Rattle.cedar_authoring.proofs.at_line.tell_held.Given as goal
 
 abbrev pub invariant-loop-id : goal.invariant-loop-id

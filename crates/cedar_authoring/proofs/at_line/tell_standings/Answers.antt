@@ -3,7 +3,7 @@ use Rattle.std.proofs.Common.{◌≡◌, ◌++◌, ◌∙◌, ap, append_assoc, 
 use Rattle.std.proofs.lemmas.Result.{on_ok_weaker}
 use Rattle.cedar_session.specs.Sessions.{world_of}
 use Rattle.cedar_authoring.specs.Names.{TellsNames}
-use Rattle.cedar_authoring.specs.Telling.{Adds}
+use Rattle.cedar_messages.specs.Telling.{Adds}
 use Rattle.cedar_authoring.proofs.Going.{all_held, standings_added}
 use Rattle.cedar_authoring.proofs.at_line.tell_standings.Goals as goal
 

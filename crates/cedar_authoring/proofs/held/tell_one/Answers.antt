@@ -5,7 +5,7 @@ use Rattle.cedar_held.specs.PolicyWorlds.{policies_in}
 use Rattle.cedar_language.specs.Uid.{Text}
 use Rattle.cedar_authoring.specs.Standing.{standing_words, TellsStanding}
 use Rattle.cedar_authoring.specs.StandingWords.{words_of}
-use Rattle.cedar_authoring.specs.Telling.{Adds}
+use Rattle.cedar_messages.specs.Telling.{Adds}
 use Rattle.cedar_authoring.proofs.Standings.{told_none, told_some}
 use Rattle.cedar_authoring.proofs.held.tell_one.Goals as goal
 

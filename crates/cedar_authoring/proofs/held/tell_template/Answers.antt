@@ -3,9 +3,9 @@ use Rattle.std.proofs.Common.{◌≡◌, ◌++◌, ◌∷◌, [], ap, sym, subst
 use Rattle.std.proofs.lemmas.List.{append-nil}
 use Rattle.cedar_policies.specs.Templates.{template_id}
 use Rattle.cedar_policies.specs.declared.templates.Template.{Template}
-use Rattle.cedar_authoring.specs.Checks.{TellsPolicy}
-use Rattle.cedar_authoring.specs.Telling.{line_of, Adds, IsLine}
-use Rattle.cedar_authoring.proofs.Told.{told_on_ok}
+use Rattle.cedar_refusals.specs.Checks.{TellsPolicy}
+use Rattle.cedar_messages.specs.Telling.{line_of, Adds, IsLine}
+use Rattle.cedar_messages.proofs.Told.{told_on_ok}
 use Rattle.cedar_authoring.proofs.held.tell_template.Goals as goal
 
 pub returns-clause-some : goal.returns-clause-some
