@@ -3,6 +3,7 @@ mod Errs
 mod Fitting
 mod Going
 mod NamesLeft
+mod PastsTold
 mod Ran
 mod Refusals
 mod Standings

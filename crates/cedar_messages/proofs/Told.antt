@@ -39,3 +39,9 @@ module _ {X : Type 0} (Tells : X → Text → Type 0) where
 pub told_on_ok : {A E : Type 0} (result : Result A E) (Tells : Text → Type 0) (old new more : Text) → Tells more → OnOk result (new ≡ old ++ more) → OnOk result (Adds Tells old new)
 told_on_ok (Ok a) Tells old new more tells is = (more, tells, is)
 told_on_ok (Err e) Tells old new more tells is = is
+
+-- what is told of each is told otherwise too
+pub TellsEach-weaker : {X : Type 0} (Tells Also : X → Text → Type 0) → ((x : X) (told : Text) → Tells x told → Also x told) → (xs : List X) (told : Text)
+    → TellsEach Tells xs told → TellsEach Also xs told
+TellsEach-weaker Tells Also make [] told h = h
+TellsEach-weaker Tells Also make (x ∷ xs) told h = (h.0, h.1, make x h.0 h.2, TellsEach-weaker Tells Also make xs h.1 h.3, h.4)

@@ -32,7 +32,7 @@ pub fn tell_faults(
     Ok(told)
 }
 
-/// The same, unless the first of them is want of memory.
+/// The same, unless the first of them is want of memory, for which it is refused too.
 pub fn tell_unread(
     alloc: Global,
     name: &str,

@@ -23,7 +23,7 @@ pub fn line_and_column(text: &str, byte: usize) -> Position
     position_in(text.as_bytes(), byte)
 }
 
-/// The same of bytes that are perhaps no text.
+/// The same of bytes that are perhaps no text, in which each byte counts that may begin a character.
 pub fn position_in(bytes: &[u8], byte: usize) -> Position
     ensures { result ≡ position_at bytes.now byte }
 {
@@ -74,7 +74,7 @@ pub struct Places<'t> {
 }
 
 impl<'t> Places<'t> {
-    /// The places of this text. Takes time linear in it, and memory of a sixteenth of its bytes.
+    /// The places of this text. Takes time linear in it, and memory of a sixteenth of its bytes. Refused for memory alone.
     pub fn of(alloc: Global, text: &'t str) -> Result<Places<'t>, AllocError>
         ensures { IfOk result (λ places. places.text.now ≡ text.entry.now) }
     {
@@ -82,7 +82,7 @@ impl<'t> Places<'t> {
         Ok(Places { text, counted })
     }
 
-    /// Where a byte of the text stands.
+    /// Where the byte of the text with this number stands, as [`line_and_column`] says. Looks at 256 bytes at most.
     pub fn position(&self, byte: usize) -> Position
         ensures { result ≡ position_at self.now.text.now byte }
     {

@@ -8,7 +8,8 @@ use std::alloc::{AllocError, Global};
 /// A source line of more characters is not shown.
 pub(crate) const LONGEST_LINE: usize = 400;
 
-/// The name of a text and a place in it, or the name alone where no place is known.
+/// The head of a line that tells of a text: `NAME:LINE:COLUMN: `, or `NAME: ` where no place is known. Refused for memory
+/// alone.
 pub fn heading(alloc: Global, name: &str, place: Option<Position>) -> Result<String, AllocError>
     ensures { IfOk result (λ head. string_bytes head ≡ heading name.now place) }
 {
@@ -18,7 +19,8 @@ pub fn heading(alloc: Global, name: &str, place: Option<Position>) -> Result<Str
     }
 }
 
-/// Tells a message of a place in the text of this name, on one line, and what is shown below it.
+/// Tells a message of a place in the text of this name, on one line, and what is shown below it, which are lines that
+/// begin with a space. Refused for memory alone.
 pub fn tell(
     alloc: Global,
     told: &mut String,
@@ -33,7 +35,7 @@ pub fn tell(
     tell_line(alloc, told, name, place, message.as_str(), below)
 }
 
-/// Tells a line of a place in the text of this name, and what is shown below it.
+/// Tells a line of a place in the text of this name, as it is, and what is shown below it. Refused for memory alone.
 pub fn tell_line(
     alloc: Global,
     told: &mut String,
@@ -52,7 +54,8 @@ pub fn tell_line(
     Ok(())
 }
 
-/// A text on one line, on which its control characters are written as in a string, but for tabs.
+/// A text on one line, on which its control characters are written as in a string, but for tabs. Refused for memory
+/// alone.
 pub fn on_one_line(alloc: Global, text: &str) -> Result<String, AllocError>
     ensures { IfOk result (λ line. IsLine (string_bytes line)) }
 {
@@ -61,7 +64,8 @@ pub fn on_one_line(alloc: Global, text: &str) -> Result<String, AllocError>
     Ok(line)
 }
 
-/// Appends a text to a line: in place of its control characters but tabs stands how strings write them.
+/// Appends a text to a line: in place of its control characters but tabs stands how strings write them. Refused for
+/// memory alone.
 pub fn push_on_line(told: &mut String, text: &str) -> Result<(), AllocError>
     ensures { OnOk result (Adds IsLine (string_bytes told.old) (string_bytes told.new)) }
 {
@@ -147,7 +151,8 @@ fn width(c: char) -> usize {
     }
 }
 
-/// What is shown of a place in a text, if one is known: its line, and a mark below the place.
+/// What is shown of a place in a text, if one is known: its line, where that has at most 400 characters, and a mark below
+/// the place. Refused for memory alone.
 pub fn shown(alloc: Global, text: &str, place: Option<Position>) -> Result<String, AllocError>
     ensures { IfOk result (λ shown. AreBelow (string_bytes shown)) }
 {
@@ -215,7 +220,7 @@ fn push_times(told: &mut String, c: char, times: usize) -> Result<(), AllocError
     Ok(())
 }
 
-/// Adds a line below what it belongs to.
+/// Adds a line below what it belongs to, behind four spaces. Refused for memory alone.
 pub fn push_indented(told: &mut String, line: &str) -> Result<(), AllocError>
     ensures { OnOk result (Adds AreBelow (string_bytes told.old) (string_bytes told.new)) }
 {

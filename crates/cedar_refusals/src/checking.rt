@@ -205,7 +205,8 @@ impl<'e, 'f, F: ExtensionFunctionObject> Checker<'e, 'f, F> {
     }
 }
 
-/// Tells why a text isn't read, unless that is want of memory.
+/// Tells why a text isn't read as policies, in a report of status 1. Refused for memory alone, also where the first of
+/// these errors is want of it.
 pub fn refuse_unread<F: ExtensionFunctionObject>(
     alloc: Global,
     name: &str,

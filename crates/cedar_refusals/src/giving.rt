@@ -33,7 +33,8 @@ pub struct Source<'t> {
     pub text: &'t str,
 }
 
-/// Bytes as a text that a command may have, or a report of why they are none.
+/// Bytes as a text that a command may have, or a report, of status 1, of why they are none: they are no UTF-8, or more
+/// than 1,048,576. Refused for memory alone.
 pub fn read_source<'t>(
     alloc: Global,
     name: &'t str,
@@ -58,7 +59,7 @@ pub fn read_source<'t>(
     }
 }
 
-/// A command that is refused.
+/// A command that a session refused.
 #[derive(Clone, Copy, Debug)]
 pub struct Refused<'t> {
     pub verb: Verb,
@@ -67,6 +68,7 @@ pub struct Refused<'t> {
 }
 
 impl<'t> Refused<'t> {
+    /// The command of this verb on this text, which is refused so.
     pub fn of(verb: Verb, source: Source<'t>, refusal: Refusal) -> Refused<'t>
         ensures refusal { result.refusal ≡ refusal }
         ensures source { result.source ≡ source.entry }
@@ -79,8 +81,8 @@ impl<'t> Refused<'t> {
     }
 }
 
-/// Tells why a session refuses a command's body, unless that is want of memory: the faults of the body, or else the kind
-/// of the refusal.
+/// Tells why a session refuses a command's body, in a report of status 1: the faults of the body, or else the kind of the
+/// refusal. Refused for memory alone, also where the command is.
 pub fn tell_refusal<F: ExtensionFunctionObject>(
     alloc: Global,
     extensions: &Extensions<'_, F>,
@@ -119,7 +121,7 @@ fn kind_told(alloc: Global, name: &str, refusal: Refusal) -> Result<String, Allo
 }
 
 /// What is told of the faults of a refused command's text, where some are found: as policies those of a load, and else
-/// as a body.
+/// as a body. Refused for memory alone.
 pub fn faults_told<F: ExtensionFunctionObject>(
     alloc: Global,
     extensions: &Extensions<'_, F>,

@@ -93,7 +93,8 @@ fn place_of(places: &Places<'_>, policy: Option<&Template>) -> Option<Position> 
     }
 }
 
-/// `template` where it has slots, else its effect; and behind it the annotation `@id`, if it has one.
+/// `template` where it has slots, else its effect; and behind it the annotation `@id`, if it has one. Refused for memory
+/// alone.
 pub fn described(alloc: Global, policy: Option<&Template>) -> Result<String, AllocError>
     ensures { IfOk result (λ what. IsLine (string_bytes what)) }
 {

@@ -11,6 +11,7 @@ ghost use Rattle.cedar_refusals.specs.Naming.{in_quotes, stands};
 use cedar_literals::escapes::Escaped;
 use std::alloc::{AllocError, Global};
 
+/// Whether a name stands among these.
 pub fn stands(standing: &[&str], name: &str) -> bool
     ensures { result ≡ stands (map (λ n. n.now) standing.now) name.now }
 {
@@ -28,6 +29,7 @@ fn is_same(text: &str, other: &str) -> bool
     text == other
 }
 
+/// Whether a name is that of one of the four variables.
 pub fn is_variable(name: &str) -> bool
     ensures { result ≡ is_one_of variable_names name.now }
 {
@@ -46,7 +48,7 @@ pub fn once(mut names: Vec<&str>) -> Vec<&str>
     names
 }
 
-/// Names in brackets, each in quotes as a body has them.
+/// Names in brackets, with commas between, each in quotes as a body has them. Refused for memory alone.
 pub fn listed(alloc: Global, names: &[&str]) -> Result<String, AllocError>
     ensures { IfOk result (λ told. string_bytes told ≡ listed (map in_quotes (map (λ n. n.now) names.now))) }
 {

@@ -6,7 +6,7 @@ use Rattle.cedar_policies.specs.declared.templates.Template.{Template}
 use Rattle.cedar_refusals.specs.Checks.{TellsPolicy}
 use Rattle.cedar_messages.specs.Telling.{line_of, Adds, IsLine}
 use Rattle.cedar_messages.proofs.Told.{told_on_ok}
-use Rattle.cedar_authoring.proofs.held.tell_template.Goals as goal
+use Rattle.cedar_authoring.proofs.held.Held.tell_template.Goals as goal
 
 pub returns-clause-some : goal.returns-clause-some
 returns-clause-some c =

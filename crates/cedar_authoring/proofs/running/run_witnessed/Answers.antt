@@ -2,7 +2,7 @@
 use Rattle.std.proofs.Common.{false, refl, subst, sym, All, string_bytes}
 use Rattle.cedar_authoring.specs.Scripts.{FitsCommand, TellsTest}
 use Rattle.cedar_messages.proofs.Below.{from_nothing}
-use Rattle.cedar_authoring.proofs.running.run_test.Goals as goal
+use Rattle.cedar_authoring.proofs.running.run_witnessed.Goals as goal
 
 pub returns-in-Some : goal.returns-in-Some
 returns-in-Some g c =
