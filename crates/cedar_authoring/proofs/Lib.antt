@@ -2,6 +2,7 @@ mod Covered
 mod Errs
 mod Fitting
 mod Going
+mod KeptByIds
 mod NamesLeft
 mod PastsTold
 mod Ran

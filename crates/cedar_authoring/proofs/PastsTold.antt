@@ -16,7 +16,7 @@ module _ (past : Past) (policies : Policies) (response : PartialResponse) (ids :
   told_of_text alone = (
     adds.0,
     TellsEach-weaker (TellsOneOf past policies response) (TellsOne past.script.now policies response)
-    (λ id told h. subst (λ n. TellsOne n policies response id told) (h.1 alone) h.2) ids adds.0 adds.1,
+        (λ id told h. subst (λ n. TellsOne n policies response id told) (h.1 alone) h.2) ids adds.0 adds.1,
     adds.2,
   )
 

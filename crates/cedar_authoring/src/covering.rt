@@ -10,7 +10,7 @@ use crate::origins::Origin;
 use crate::past::Past;
 use crate::running::{Outcome, run_witnessed};
 use crate::scopes::{Asker, is_in_scope};
-use crate::standing::{Standing, is_satisfied};
+use crate::standing::{Standing, Standings, is_satisfied};
 use crate::witness::Witness;
 use cedar_extensions::objects::ExtensionFunctionObject;
 use cedar_messages::telling::heading;
@@ -157,8 +157,9 @@ impl Coverage {
         asker: &Asker<'_, '_, '_, F>,
         response: &PartialResponse,
     ) -> Result<(), AllocError> {
+        let standings = Standings::of(alloc, response)?;
         for policy in session.policies().policies() {
-            let unsatisfied = match Standing::of(response, policy.id()) {
+            let unsatisfied = match standings.standing(policy.id()) {
                 Standing::NotSatisfied => is_in_scope(alloc, asker, policy)?,
                 _ => false,
             };

@@ -11,7 +11,7 @@ ghost use Rattle.cedar_authoring.specs.Pasts.{TellsOneOf};
 
 use crate::origins::Origin;
 use crate::past::Past;
-use crate::standing::{Standing, tell_standing};
+use crate::standing::{Standings, tell_standing};
 use cedar_extensions::objects::ExtensionFunctionObject;
 use cedar_held::worlds::policy_sets_are_worlds;
 use cedar_messages::telling::{on_one_line, tell_line};
@@ -26,7 +26,7 @@ use std::alloc::{AllocError, Global};
 #[derive(Drop)]
 pub(crate) struct Held<'s> {
     policies: &'s PolicySet,
-    response: &'s PartialResponse,
+    standings: Standings<'s>,
     // How many links each template has that has one.
     links: PolicyMap<usize>,
     // The names that aren't told.
@@ -42,14 +42,14 @@ impl<'s> Held<'s> {
         response: &'s PartialResponse,
     ) -> Result<Held<'s>, AllocError>
         ensures policies { IfOk result (λ held. policies_in held.policies.now ≡ (world_of session.now).policies) }
-        ensures response { IfOk result (λ held. held.response.now ≡ response.now) }
+        ensures response { IfOk result (λ held. held.standings.response.now ≡ response.now) }
     {
         let policies = session.policies();
         let links = count_links(alloc, policies)?;
         let untold = once(session.untold()?);
         Ok(Held {
             policies,
-            response,
+            standings: Standings::of(alloc, response)?,
             links,
             untold,
         })
@@ -64,7 +64,7 @@ impl<'s> Held<'s> {
         past: &Past<'_>,
         ids: &[PolicyID],
     ) -> Result<(), AllocError>
-        ensures { OnOk result (Adds (TellsEach (TellsOneOf past.now (policies_in self.now.policies.now) self.now.response.now) ids.now) (string_bytes told.old) (string_bytes told.new)) }
+        ensures { OnOk result (Adds (TellsEach (TellsOneOf past.now (policies_in self.now.policies.now) self.now.standings.response.now) ids.now) (string_bytes told.old) (string_bytes told.new)) }
     {
         for id in ids {
             let origin = past.origin_of(self.policies, id);
@@ -81,14 +81,14 @@ impl<'s> Held<'s> {
         origin: Origin<'_, '_>,
         id: &PolicyID,
     ) -> Result<(), AllocError>
-        ensures { OnOk result (Adds (TellsOne origin.entry.name.now (policies_in self.now.policies.now) self.now.response.now id.now) (string_bytes told.old) (string_bytes told.new)) }
+        ensures { OnOk result (Adds (TellsOne origin.entry.name.now (policies_in self.now.policies.now) self.now.standings.response.now id.now) (string_bytes told.old) (string_bytes told.new)) }
     {
         policy_sets_are_worlds();
         // Its contract says that the template of a link is bound.
         let _bound = self.policies.len();
         match self.policies.get(id) {
             Some(policy) => {
-                let standing = Standing::of(self.response, id);
+                let standing = self.standings.standing(id);
                 tell_standing(
                     alloc,
                     told,

@@ -37,6 +37,8 @@ pub(crate) struct Past<'t> {
     // Of what no command loaded.
     text: Places<'t>,
     question: &'t str,
+    // As it was read, where that was wanted.
+    asked: Option<RestrictedExpr>,
     // What was told of it, but for the texts that are yet to be read.
     told: BTreeMap<RcStr, Value>,
     tells: Vec<&'t str>,
@@ -70,6 +72,7 @@ impl<'t> Past<'t> {
             loaded: PolicyMap::new(alloc),
             text: Places::of(alloc, text)?,
             question: "",
+            asked: None,
             told: BTreeMap::new(alloc),
             tells: Vec::new(alloc),
         })
@@ -111,6 +114,7 @@ impl<'t> Past<'t> {
             self.tells.push(text)?;
         } else {
             self.question = text;
+            self.asked = None;
             self.told = BTreeMap::new(alloc);
             self.tells.clear();
         }
@@ -138,16 +142,31 @@ impl<'t> Past<'t> {
 
     /// What evaluates expressions for the open question as it was asked. Refused for memory alone.
     pub(crate) fn asker<'s, 'e, 'f, F: ExtensionFunctionObject>(
-        &self,
+        &mut self,
         alloc: Global,
         extensions: &'e Extensions<'f, F>,
         session: &'s Session<'_, '_, F>,
     ) -> Result<Asker<'s, 'e, 'f, F>, AllocError> {
-        let question = body_of(alloc, extensions, self.question)?;
-        match request_of(alloc, &question, extensions, DEPTH) {
+        self.read_question(alloc, extensions)?;
+        let Some(question) = &self.asked else {
+            return Err(AllocError);
+        };
+        match request_of(alloc, question, extensions, DEPTH) {
             Ok(request) => evaluator_of(alloc, &request, session.entities(), extensions, DEPTH),
             Err(_) => Err(AllocError),
         }
+    }
+
+    /// Reads the open question, where that wasn't done.
+    fn read_question<F: ExtensionFunctionObject>(
+        &mut self,
+        alloc: Global,
+        extensions: &Extensions<'_, F>,
+    ) -> Result<(), AllocError> {
+        if self.asked.is_none() {
+            self.asked = Some(body_of(alloc, extensions, self.question)?);
+        }
+        Ok(())
     }
 
     /// The response to the open question taken up again with all that was told since, its errors kept; None where nothing
@@ -181,9 +200,12 @@ impl<'t> Past<'t> {
         if self.tells.is_empty() {
             return Ok(());
         }
-        let question = body_of(alloc, extensions, self.question)?;
+        self.read_question(alloc, extensions)?;
+        let Some(question) = &self.asked else {
+            return Err(AllocError);
+        };
         for text in &self.tells {
-            self.told = told_besides(alloc, extensions, &question, &self.told, text)?;
+            self.told = told_besides(alloc, extensions, question, &self.told, text)?;
         }
         self.tells.clear();
         Ok(())

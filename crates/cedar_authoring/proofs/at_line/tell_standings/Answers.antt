@@ -24,6 +24,6 @@ returns g c =
     let held = all_held c.policies.result.now asked.policies ids c.policy_sets_are_worlds.ensures.finds c.policies.ensures.policies c.in_ok-ids.ensures in
     let P : Policies → PartialResponse → Type 0 = λ ps r. Adds (TellsEach (TellsHeld ps r) given) start mid in
     let policies = policies_in own.policies.now in
-    let each = told_of_some c.args.past.now policies own.response.now given start mid c.in_ok-tell_each.ensures in
-    let told = subst (P asked.policies) c.in_ok-held.ensures.response (subst (λ ps. P ps own.response.now) c.in_ok-held.ensures.policies each) in
+    let each = told_of_some c.args.past.now policies own.standings.response.now given start mid c.in_ok-tell_each.ensures in
+    let told = subst (P asked.policies) c.in_ok-held.ensures.response (subst (λ ps. P ps own.standings.response.now) c.in_ok-held.ensures.policies each) in
     on_ok_weaker c.tell_names.result (standings_added asked response ids given start mid new held c.as_slice.ensures.value told) c.tell_names.ensures

@@ -19,7 +19,7 @@ returns g c =
     let new = string_bytes c.tell_each.new.told in
     let P : Text → Policies → PartialResponse → Type 0 = λ n ps r. Adds (TellsPolicies n ps r ids) old new in
     let policies = policies_in held.policies.now in
-    let response = held.response.now in
+    let response = held.standings.response.now in
     on_ok_weaker c.tell_each.result
     (λ adds. subst (λ r. P c.args.source.name.now _ r) c.in_ok-held.ensures.response
     (subst (λ ps. P c.args.source.name.now ps response) c.in_ok-held.ensures.policies

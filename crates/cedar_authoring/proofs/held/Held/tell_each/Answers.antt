@@ -9,7 +9,7 @@ pub loop-id-preserved : goal.loop-id-preserved
 loop-id-preserved c =
     let past = c.args.past.now in
     let policies = policies_in c.args.self.now.policies.now in
-    let response = c.args.self.now.response.now in
+    let response = c.args.self.now.standings.response.now in
     let name = c.origin_of-origin.result.name.now in
     let one = c.in_ok-tell_one.ensures in
     Adds-more (TellsOneOf past policies response) c.args.ids.now c.loop-id.id-index c.id-item.result (string_bytes c.args.told.now) (string_bytes c.loop-id.told)

@@ -14,22 +14,22 @@ returns-in-Some c =
     let es = c.args.self.now.policies.now in
     let id = c.args.id.now in
     let name = c.args.origin.name.now in
-    let response = c.args.self.now.response.now in
+    let response = c.args.self.now.standings.response.now in
     let old = string_bytes c.args.told.now in
     let new = string_bytes c.tell_standing.new.told in
     let named = c.in-Some.ensures.id in
-    let P : Text → Type 0 = λ i. words_of c.of-standing.result ≡ standing_words response i in
+    let P : Text → Type 0 = λ i. words_of c.standing-standing.result ≡ standing_words response i in
     let Q : Text → Type 0 = λ i. Adds (TellsStanding name response i) old new in
     on_ok_weaker c.tell_standing.result
     (λ adds. told_some es c.args.self.now.told_by_slots c.len-bound.ensures.whole c.policy_sets_are_worlds.ensures.finds (policies_in es) refl id name response old new c.get.result c.in-Some.policy c.in-Some.is c.get.ensures.entry (subst Q named adds))
-    (c.tell_standing.ensures response (subst P (sym named) c.of-standing.ensures))
+    (c.tell_standing.ensures response (subst P (sym named) c.standing-standing.ensures))
 
 pub returns-in-None : goal.returns-in-None
 returns-in-None c =
     let es = c.args.self.now.policies.now in
     let id = c.args.id.now in
     let name = c.args.origin.name.now in
-    let response = c.args.self.now.response.now in
+    let response = c.args.self.now.standings.response.now in
     let old = string_bytes c.args.told.now in
     let new = string_bytes c.tell_template.new.told in
     told_none es c.args.self.now.told_by_slots c.len-bound.ensures.whole c.policy_sets_are_worlds.ensures.finds (policies_in es) refl id name response old new c.tell_template.result
