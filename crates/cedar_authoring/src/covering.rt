@@ -18,7 +18,7 @@ use cedar_policies::policies::Policy;
 use cedar_policy_set::policy_map::PolicyMap;
 use cedar_refusals::checking::DEPTH;
 use cedar_scripts::{Step, Test};
-use cedar_session::{Extensions, PartialResponse, PolicyID, Session};
+use cedar_session::{Extensions, PartialResponse, PolicyID, Reply, Session};
 use std::alloc::{AllocError, Global};
 
 /// How policies stood in the answers of tests: of each that was in force, a link as well as a static policy, whether it
@@ -131,8 +131,25 @@ impl Coverage {
         Ok(told)
     }
 
+    /// Adds what a command of a test is answered.
+    pub(crate) fn add<'t, F: ExtensionFunctionObject>(
+        &mut self,
+        alloc: Global,
+        extensions: &Extensions<'_, F>,
+        session: &Session<'_, '_, F>,
+        past: &mut Past<'t>,
+        step: &'t Step,
+        reply: &Reply,
+    ) -> Result<(), AllocError> {
+        past.add(alloc, step, reply)?;
+        match reply {
+            Reply::Answer(_) => self.add_answer(alloc, extensions, session, past),
+            Reply::Ids(_) | Reply::Done => Ok(()),
+        }
+    }
+
     /// Adds how the policies in force stand to the open question.
-    pub(crate) fn add_answer<F: ExtensionFunctionObject>(
+    fn add_answer<F: ExtensionFunctionObject>(
         &mut self,
         alloc: Global,
         extensions: &Extensions<'_, F>,

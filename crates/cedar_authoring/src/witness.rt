@@ -38,13 +38,12 @@ impl<'c, 't> Witness<'c, 't> {
         step: &'t Step,
         outcome: &Result<Reply, Refusal>,
     ) -> Result<(), AllocError> {
-        let (Some(coverage), Ok(reply)) = (&mut self.coverage, outcome) else {
+        let Ok(reply) = outcome else {
             return Ok(());
         };
-        self.past.add(alloc, step, reply)?;
-        match reply {
-            Reply::Answer(_) => coverage.add_answer(alloc, extensions, session, &mut self.past),
-            _ => Ok(()),
+        match &mut self.coverage {
+            Some(coverage) => coverage.add(alloc, extensions, session, &mut self.past, step, reply),
+            None => Ok(()),
         }
     }
 
