@@ -7,7 +7,8 @@ words name. `refused.txt` and `told.txt` have texts, each below a line `==== NAM
 seen, and behind `> ` what is printed of them, without types where the name begins so. `habits.txt` has lines for a shell, in which `cedar_cli` is the program, over a copy of the
 folder `habits`: below `==== NAME` stand `$ LINE`, what it writes, `! ` before each line of its errors, and `= STATUS` where that isn't 0.
 docs/POLICIES.md shows scripts, and what they print: each is run too. Beside these it tries texts that are too long or too deep, and that
-`check` takes a time that grows as the text does: at most some times that of a session's `load` of the same text, each the best of three.
+`check` takes a time that grows as the text does: at most some times that of a session's `load` of the same text, each the best of three; and
+that four times as many tests, templates or policies that err take less than seven times as long.
 
 All is written by hand, from what is promised. Of a program that isn't proved (tools/build.py) the case `version` fails, since that
 program says so. Ends with status 1 where a run goes otherwise."""
@@ -26,6 +27,14 @@ PAGE = "docs/POLICIES.md"
 SECONDS = 60
 # How often the time of a session's load a check of the same text may take; one with faults is read twice, and each is told.
 SLOWER, SLOWER_WITH_FAULTS = 3, 6
+GROWTH = 7
+EXPLAIN = ["explain", "parts", "none", "asked"]
+# What grows, the words, a part of the file `parts`, and how many.
+GROWTHS = [
+    ("names of tests", ["test", "--list", "parts"], "test t%d\n", 10_000),
+    ("templates", EXPLAIN, 'permit(principal == ?principal, action == Action::"a%d", resource);\n', 3_000),
+    ("policies that err", EXPLAIN, "permit(principal, action, resource) when { context.a%d };\n", 3_000),
+]
 # Characters that texts have by their names.
 CHARACTERS = {"<TAB>": "\t", "<CR>": "\r", "<ESC>": "\x1b", "<NUL>": "\0", "<BEL>": "\a"}
 
@@ -173,12 +182,12 @@ def beside(program):
 # ---- time
 
 
-def processor_seconds(program, words, given):
+def processor_seconds(program, words, given, room=None):
     """What a run takes of a processor, at the best of three."""
     taken = []
     for _ in range(3):
         before = resource.getrusage(resource.RUSAGE_CHILDREN)
-        ran(program, words, given)
+        ran(program, words, given, room)
         after = resource.getrusage(resource.RUSAGE_CHILDREN)
         taken.append(after.ru_utime + after.ru_stime - before.ru_utime - before.ru_stime)
     return min(taken)
@@ -194,6 +203,24 @@ def of_times(program):
         yield f"({name}: the time of check)", (0, "", ""), (0, why.encode(), b"")
 
 
+def of_growths(program):
+    """Four times as much takes some four times as long, and not sixteen."""
+    for name, words, part, count in GROWTHS:
+        with tempfile.TemporaryDirectory(prefix="growth-") as room:
+            small, large = (time_of_parts(program, words, part, it, room) for it in (count, 4 * count))
+        why = "" if large <= GROWTH * small else f"{count} took {small:.2f} processor seconds, and {4 * count} took {large:.2f}\n"
+        yield f"({name}: the time by their number)", (0, "", ""), (0, why.encode(), b"")
+
+
+def time_of_parts(program, words, part, count, room):
+    """What a run takes that is given a file `parts` of so many parts."""
+    texts = {"parts": "".join(part % it for it in range(count)), "none": "[]", "asked": '{action: Action::"a", context: {}}'}
+    for name, text in texts.items():
+        with open(f"{room}/{name}", "w", encoding="utf-8") as it:
+            it.write(text)
+    return processor_seconds(program, words, b"", room)
+
+
 def main():
     words = sys.argv[1:]
     if len(words) < 2 or words[0] != "--program":
@@ -202,7 +229,7 @@ def main():
     if not os.access(program, os.X_OK):
         sys.exit(f"there is no program {words[1]}; `rt run` in crates/cedar_cli leaves one at crates/cedar_cli/out/cedar_cli, and tools/build.py one without a proof")
     passed = failed = 0
-    for tried in (of_texts, of_folders, of_habits, of_page, beside, of_times):
+    for tried in (of_texts, of_folders, of_habits, of_page, beside, of_times, of_growths):
         for name, wanted, got in tried(program):
             if words[2:] and name not in words[2:]:
                 continue

@@ -21,10 +21,10 @@ use Rattle.cedar_world.specs.World.{World, Policies, new_world}
 use Rattle.cedar_authoring.specs.ScriptQuestions.{AreHeld, AsksAt, GoesThrough, IsStopped, IsUnasked, StandsBehind, StopsAmong, TellsAnswer, TellsExplainedAt, TakesUp, TellsHeld, TellsOpen, TellsStandings, one_stops}
 use Rattle.cedar_authoring.specs.Names.{TellsNames}
 use Rattle.cedar_authoring.specs.Scripts.{HasStep, command_of}
-use Rattle.cedar_authoring.specs.Telling.{Adds, TellsEach}
-use Rattle.cedar_authoring.specs.declared.scripts.script.Step.{Step}
-use Rattle.cedar_authoring.specs.declared.scripts.script.Script.{Script}
-use Rattle.cedar_authoring.specs.declared.scripts.script.Test.{Test}
+use Rattle.cedar_messages.specs.Telling.{Adds, TellsEach}
+use Rattle.cedar_scripts.specs.declared.script.Step.{Step}
+use Rattle.cedar_scripts.specs.declared.script.Script.{Script}
+use Rattle.cedar_scripts.specs.declared.script.Test.{Test}
 use Rattle.cedar_authoring.proofs.Ran.{Answers-append}
 
 -- a list is what stands before one of its values, that, and what stands behind it

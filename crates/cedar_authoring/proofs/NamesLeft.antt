@@ -22,7 +22,8 @@ use Rattle.cedar_evaluator.specs.Given.{Noted}
 use Rattle.cedar_evaluator.proofs.Lists.{IsAmong, or_left, or_right, mapped, unmapped}
 use Rattle.cedar_evaluator.proofs.Members.{among_left, among_right}
 use Rattle.cedar_asking.proofs.Firsts.{all_among}
-use Rattle.cedar_authoring.specs.Awaiting.{awaits, name_standing, stands}
+use Rattle.cedar_refusals.specs.Naming.{stands}
+use Rattle.cedar_authoring.specs.Awaiting.{awaits, name_standing}
 use Rattle.cedar_authoring.specs.Names.{names_of, names_left, AwaitedNamesSuffice}
 
 -- ---- each unknown, by the places where one stands

@@ -10,9 +10,9 @@ use Rattle.cedar_world.specs.Commands.{Reply}
 use Rattle.cedar_world.specs.Session.{Command, Answers, no_command, a_command}
 use Rattle.cedar_world.specs.Setting.{Setting}
 use Rattle.cedar_world.specs.World.{World}
-use Rattle.cedar_authoring.specs.declared.scripts.script.Script.{Script}
-use Rattle.cedar_authoring.specs.declared.scripts.script.Step.{Step}
-use Rattle.cedar_authoring.specs.declared.scripts.script.Test.{Test}
+use Rattle.cedar_scripts.specs.declared.script.Script.{Script}
+use Rattle.cedar_scripts.specs.declared.script.Step.{Step}
+use Rattle.cedar_scripts.specs.declared.script.Test.{Test}
 use Rattle.cedar_authoring.specs.Scripts.{AreAnswered, IsAnswered, IsFed, TellsScript, TellsTests, Went, answers_step, as_expected, command_of, failed_of, passed_of}
 
 -- ---- replies

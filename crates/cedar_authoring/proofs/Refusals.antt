@@ -1,5 +1,5 @@
 -- What a report says of a question that is answered, or of a text that is refused.
-use Rattle.std.proofs.Common.{◌≡◌, ◌∙◌, ◌⊎◌, ℕ, true, Option, Some, None, Result, Ok, Err, IfNone, IfOk, IfSome, inl, inr, refl, subst, arith}
+use Rattle.std.proofs.Common.{◌≡◌, ◌∙◌, ◌⊎◌, ℕ, Option, Some, None, Result, Ok, Err, IfOk, inl, inr, refl, subst, arith}
 use Rattle.cedar_language.specs.Answering.{Decision, Allow, Deny}
 use Rattle.cedar_language.specs.Uid.{Text}
 use Rattle.cedar_frames.specs.declared.verb.Verb.{Verb}
@@ -14,9 +14,9 @@ use Rattle.cedar_world.specs.Setting.{Setting}
 use Rattle.cedar_world.specs.Step.{Step}
 use Rattle.cedar_world.specs.World.{World}
 use Rattle.cedar_authoring.specs.Explaining.{status_of}
-use Rattle.cedar_authoring.specs.RefusedBodies.{IsBodyWithin, TellsBody, TellsOfAPart, a_part, is_for_a_part}
+use Rattle.cedar_refusals.specs.RefusedBodies.{TellsBody}
 use Rattle.cedar_authoring.specs.Scripts.{IsFed}
-use Rattle.cedar_authoring.specs.declared.giving.Source.{Source}
+use Rattle.cedar_refusals.specs.declared.giving.Source.{Source}
 
 pub never_one : (d : Option Decision) → status_of d ≡ 1 → ⊥
 never_one (Some Allow) is = omega (arith, is)
@@ -88,17 +88,3 @@ both_ok (Err e) P Q R make p q = p
 pub stepped : (s by : Setting) (here old new : World) (verb : Verb) (text : Text) (reply : world.Reply) → s ≡ by → here ≡ old → Step s here verb text reply new → Step by old verb text reply new
 stepped s by here old new verb text reply same is step =
     subst (λ (w : World). Step by w verb text reply new) is (subst (λ (t : Setting). Step t here verb text reply new) same step)
-
--- what is told of a part, where one was found
-pub part_found : {S E : Type 0} (bytes : S → Text) (by : Setting) (name text : Text) (r : world.Refusal) (result : Result (Option S) E) → IsBodyWithin by text
-    → IfOk result (λ found. IfSome found (λ told. is_for_a_part r ≡ true)) → IfOk result (λ found. IfSome found (λ told. TellsOfAPart name (bytes told)))
-    → IfOk result (λ found. IfSome found (λ told. TellsBody by name text r (bytes told)))
-part_found bytes by name text r (Ok (Some told)) is part tells = a_part is part tells
-part_found bytes by name text r (Ok None) is part tells = tells
-part_found bytes by name text r (Err e) is part tells = tells
-
--- what is so in any case, where none was found
-pub where_none : {A E : Type 0} (result : Result (Option A) E) (X : Type 0) → X → IfOk result (λ found. IfNone found X)
-where_none (Ok (Some a)) X x = tt
-where_none (Ok None) X x = x
-where_none (Err e) X x = tt

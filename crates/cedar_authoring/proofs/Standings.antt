@@ -16,10 +16,10 @@ use Rattle.cedar_grammar.specs.Syntax.{PolicySyntax}
 use Rattle.cedar_policy_set.specs.Entries.{Entry, static_policy, template, link, Entries, IsWhole, bound_at, own_template_at, policy_only}
 use Rattle.cedar_policy_set.specs.Texts.{AreToldBySlots}
 use Rattle.cedar_world.specs.World.{Policies, in_force_as, in_force_at, template_at, template_of}
-use Rattle.cedar_authoring.specs.Checks.{TellsPolicy}
+use Rattle.cedar_refusals.specs.Checks.{TellsPolicy}
 use Rattle.cedar_authoring.specs.Explaining.{TellsOne, TellsTemplate}
 use Rattle.cedar_authoring.specs.Standing.{TellsStanding}
-use Rattle.cedar_authoring.specs.Telling.{Adds}
+use Rattle.cedar_messages.specs.Telling.{Adds}
 
 not_none : {A : Type 0} (x : A) → Some x ≡ None → ⊥
 not_none x e = cc

@@ -1,10 +1,8 @@
 -- What is told of a question: what a session answers, and how each policy stands.
-use Rattle.std.specs.Prelude.{◌≡◌, ◌≢◌, ◌⊎◌, ◌<◌, ℕ, List, [], ◌++◌, length, MatchOption, None, Option, Some, IsUtf8}
-use Rattle.std.specs.Str.Lossy.{utf8_valid_len}
+use Rattle.std.specs.Prelude.{◌≡◌, ◌≢◌, ◌⊎◌, ℕ, List, [], ◌++◌, MatchOption, None, Option, Some}
 use Rattle.cedar_language.specs.Answering.{Decision, Allow, Deny}
 use Rattle.cedar_language.specs.Uid.{Text}
 use Rattle.cedar_grammar.specs.Syntax.{PolicySyntax}
-use Rattle.cedar_frames.specs.Heads.{body_limit}
 use Rattle.cedar_frames.specs.declared.verb.Verb.{Verb}
 use Rattle.cedar_evaluator.specs.declared.partial_response.PartialResponse.{PartialResponse}
 use Rattle.cedar_world.specs.Answer.{Answer}
@@ -14,12 +12,12 @@ use Rattle.cedar_world.specs.Setting.{Setting}
 use Rattle.cedar_world.specs.Step.{Step}
 use Rattle.cedar_world.specs.World.{World, new_world, Policies, in_force_at, template_at}
 use Rattle.cedar_session.specs.Lending.{IsResponse}
-use Rattle.cedar_authoring.specs.Checks.{TellsFaults, TellsPolicy}
+use Rattle.cedar_refusals.specs.Checks.{TellsFaults, TellsPolicy}
 use Rattle.cedar_authoring.specs.Names.{TellsNames}
-use Rattle.cedar_authoring.specs.Places.{position_at}
-use Rattle.cedar_authoring.specs.RefusedBodies.{TellsBody}
+use Rattle.cedar_refusals.specs.RefusedBodies.{TellsBody}
+use Rattle.cedar_refusals.specs.Titles.{Titled, TellsNoText}
 use Rattle.cedar_authoring.specs.Standing.{TellsStanding}
-use Rattle.cedar_authoring.specs.Telling.{TellsEach, TellsOf}
+use Rattle.cedar_messages.specs.Telling.{TellsEach}
 
 -- what a status says of what is decided
 abbrev pub status_of : Option Decision → ℕ
@@ -63,17 +61,6 @@ pub record TellsExplained (by : Setting) (name policies entities question : Text
   pub decides : status ≡ status_of answer.decision
 
 -- ---- refusals
-
--- a text, and the name by which it is told of
-pub record Titled : Type 0 where
-  pub name : Text
-  pub text : Text
-
--- Bytes that are no command's text: the first that shows it is told, or that they are too many.
-abbrev pub TellsNoText : Titled → Text → Type 0
-TellsNoText of told =
-    ((IsUtf8 of.text → ⊥) × TellsOf of.name (Some (position_at of.text (utf8_valid_len of.text))) told)
-    ⊎ (IsUtf8 of.text × (body_limit < length of.text) × TellsOf of.name None told)
 
 -- A command is refused, and not for memory, of which this holds.
 abbrev pub Refuses : Setting → World → Verb → Text → (Refusal → Type 0) → Type 0

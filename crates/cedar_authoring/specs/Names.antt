@@ -14,7 +14,8 @@ use Rattle.cedar_trees.specs.Bare.{bare}
 use Rattle.cedar_world.specs.Asking.{Told}
 use Rattle.cedar_world.specs.Lines.{listed}
 use Rattle.cedar_world.specs.World.{Asked}
-use Rattle.cedar_authoring.specs.Awaiting.{awaits, in_quotes, name_standing}
+use Rattle.cedar_refusals.specs.Naming.{in_quotes}
+use Rattle.cedar_authoring.specs.Awaiting.{awaits, name_standing}
 
 -- the names of the unknowns in these expressions, and of the variables that stand there as they were written
 abbrev pub names_of : List Tree → List Text

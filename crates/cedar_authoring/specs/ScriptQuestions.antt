@@ -21,13 +21,13 @@ use Rattle.cedar_world.specs.Session.{Answers}
 use Rattle.cedar_world.specs.Setting.{Setting}
 use Rattle.cedar_world.specs.Step.{Step as Steps}
 use Rattle.cedar_world.specs.World.{World, Policies, new_world}
-use Rattle.cedar_authoring.specs.declared.scripts.script.Step.{Step}
-use Rattle.cedar_authoring.specs.declared.scripts.script.Test.{Test}
-use Rattle.cedar_authoring.specs.declared.scripts.script.Script.{Script}
+use Rattle.cedar_scripts.specs.declared.script.Step.{Step}
+use Rattle.cedar_scripts.specs.declared.script.Test.{Test}
+use Rattle.cedar_scripts.specs.declared.script.Script.{Script}
 use Rattle.cedar_authoring.specs.Explaining.{status_of, TellsOne}
 use Rattle.cedar_authoring.specs.Names.{TellsNames}
 use Rattle.cedar_authoring.specs.Scripts.{FitsCommand, HasStep, command_of}
-use Rattle.cedar_authoring.specs.Telling.{TellsEach}
+use Rattle.cedar_messages.specs.Telling.{TellsEach}
 
 -- ---- where a question stands
 

@@ -11,10 +11,10 @@ use Rattle.cedar_world.specs.Session.{Command, Answers}
 use Rattle.cedar_world.specs.Setting.{Setting}
 use Rattle.cedar_world.specs.Step.{Step as Steps}
 use Rattle.cedar_world.specs.World.{World, new_world}
-use Rattle.cedar_authoring.specs.declared.scripts.script.Step.{Step}
-use Rattle.cedar_authoring.specs.declared.scripts.script.Test.{Test}
-use Rattle.cedar_authoring.specs.declared.scripts.script.Script.{Script}
-use Rattle.cedar_authoring.specs.Telling.{AreBelow}
+use Rattle.cedar_scripts.specs.declared.script.Step.{Step}
+use Rattle.cedar_scripts.specs.declared.script.Test.{Test}
+use Rattle.cedar_scripts.specs.declared.script.Script.{Script}
+use Rattle.cedar_messages.specs.Telling.{AreBelow}
 
 -- ---- steps
 

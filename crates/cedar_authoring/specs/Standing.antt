@@ -5,8 +5,8 @@ use Rattle.cedar_language.specs.Order.{same_text}
 use Rattle.cedar_language.specs.Uid.{Text}
 use Rattle.cedar_evaluator.specs.Holding.{error_seen}
 use Rattle.cedar_evaluator.specs.declared.partial_response.PartialResponse.{PartialResponse}
-use Rattle.cedar_authoring.specs.declared.places.Position.{Position}
-use Rattle.cedar_authoring.specs.Telling.{line_of, AreBelow, IsLine}
+use Rattle.cedar_messages.specs.declared.places.Position.{Position}
+use Rattle.cedar_messages.specs.Telling.{line_of, AreBelow, IsLine}
 
 -- a group of policies has one of this id
 abbrev pub is_in : {V : Type 0} → Text → List (Text × V) → Bool
@@ -35,3 +35,17 @@ abbrev pub TellsStanding : Text → PartialResponse → Text → Text → Type 0
 TellsStanding name response id told =
     (place : Option Position) × (what below : Text) × IsLine what × AreBelow below
     × (told ≡ line_of name place (((id ++ codes " ") ++ what) ++ standing_words response id) ++ below)
+
+-- ---- what is kept by ids
+
+-- what stands under ids stands under those of these, and under no others
+abbrev pub AreOf : {V W : Type 0} → List (Text × V) → List (Text × W) → Type 0
+AreOf kept these = (id : Text) → is_in id kept ≡ is_in id these
+
+-- under this id something stands besides
+abbrev pub AreOneMore : {V : Type 0} → List (Text × V) → List (Text × V) → Text → Type 0
+AreOneMore old new own = (id : Text) → is_in id new ≡ (is_in id old || same_text id own)
+
+-- something is kept under the ids of those that have erred
+abbrev pub HaveErred : {V : Type 0} → List (Text × V) → PartialResponse → Type 0
+HaveErred kept response = AreOf kept (map error_seen response.errors.items)

@@ -1,10 +1,6 @@
--- Texts, and the names by which they are told of.
+-- Bytes as texts that have names.
 use Rattle.cedar_authoring.specs.declared.explaining.Named.{Named}
-use Rattle.cedar_authoring.specs.declared.giving.Source.{Source}
-use Rattle.cedar_authoring.specs.Explaining.{Titled}
+use Rattle.cedar_refusals.specs.Titles.{Titled}
 
 abbrev pub titled : Named → Titled
 titled of = record { name = of.name.now; text = of.bytes.now }
-
-abbrev pub titled_text : Source → Titled
-titled_text of = record { name = of.name.now; text = of.text.now }

@@ -5,22 +5,21 @@ ghost use Rattle.cedar_replies.specs.declared.refusal.Refusal.TheVariants as ref
 ghost use Rattle.cedar_replies.specs.Replies.{answer_of};
 ghost use Rattle.cedar_session.specs.Sessions.{setting_of, world_of};
 ghost use Rattle.cedar_session.specs.Settings.{setting_with};
-ghost use Rattle.cedar_authoring.specs.declared.scripts.script.Step.{Step};
+ghost use Rattle.cedar_messages.specs.Telling.{Adds};
+ghost use Rattle.cedar_scripts.specs.declared.script.Step.{Step};
 ghost use Rattle.cedar_authoring.specs.Explaining.{status_of};
-ghost use Rattle.cedar_authoring.specs.ScriptQuestions.{asks, AsksAt, GoesOn, GoesThrough, IsStopped, IsUnasked, StandsBehind, StopsAmong, TellsAnswer, TellsAsked, TellsExplainedAt, TellsHeld, TellsOpen, TellsStandings};
+ghost use Rattle.cedar_authoring.specs.ScriptQuestions.{asks, AsksAt, GoesOn, GoesThrough, IsStopped, IsUnasked, StandsBehind, StopsAmong, TellsAnswer, TellsAsked, TellsExplainedAt, TellsOpen, TellsStandings};
 ghost use Rattle.cedar_authoring.specs.Scripts.{HasStep};
-ghost use Rattle.cedar_authoring.specs.Telling.{Adds, TellsEach};
 
-use crate::awaiting::once;
-use crate::checking::{DEPTH, Report};
 use crate::expecting::{is_expected, unless_memory};
 use crate::explaining::{answer_line, status_of, tell_names};
-use crate::held::tell_one;
+use crate::held::Held;
 use crate::past::Past;
-use crate::scripts::{Script, Step};
 use crate::wrong::tell_wrong;
 use cedar_extensions::objects::ExtensionFunctionObject;
 use cedar_held::worlds::policy_sets_are_worlds;
+use cedar_refusals::checking::{DEPTH, Report};
+use cedar_scripts::{Script, Step};
 use cedar_session::{
     Answer, BODY_LIMIT, Command, Extensions, PartialResponse, PolicyID, PolicySet, Refusal, Reply,
     Session, Verb,
@@ -241,7 +240,7 @@ fn explain_step<'t, F: ExtensionFunctionObject>(
     }
     match session.apply(&Command::of(step.verb, step.body.as_str())) {
         Ok(Reply::Answer(answer)) => {
-            past.add_question(step)?;
+            past.add_question(alloc, step)?;
             explain(alloc, extensions, session, past, answer)
         }
         // It asks or tells.
@@ -271,7 +270,7 @@ fn explain<F: ExtensionFunctionObject>(
     alloc: Global,
     extensions: &Extensions<'_, F>,
     session: &Session<'_, '_, F>,
-    past: &Past<'_>,
+    past: &mut Past<'_>,
     answer: Answer,
 ) -> Result<Report, AllocError>
     ensures told { IfOk result (λ report. TellsAsked (setting_of session.now) (world_of session.now) (answer_of answer) (string_bytes report.text)) }
@@ -289,7 +288,7 @@ fn tell_asked<F: ExtensionFunctionObject>(
     extensions: &Extensions<'_, F>,
     told: &mut String,
     session: &Session<'_, '_, F>,
-    past: &Past<'_>,
+    past: &mut Past<'_>,
 ) -> Result<(), AllocError>
     ensures { OnOk result (Adds (TellsOpen (setting_of session.now) (world_of session.now)) (string_bytes told.old) (string_bytes told.new)) }
 {
@@ -313,37 +312,10 @@ fn tell_standings<F: ExtensionFunctionObject>(
     ensures { OnOk result (Adds (TellsStandings (world_of session.now) response.now) (string_bytes told.old) (string_bytes told.new)) }
 {
     policy_sets_are_worlds();
+    let held = Held::of(alloc, session, response)?;
     let ids = ids_held(alloc, session.policies())?;
-    tell_held(alloc, told, session, past, response, ids.as_slice())?;
+    held.tell_each(alloc, told, past, ids.as_slice())?;
     tell_names(alloc, told, session, response)
-}
-
-/// Tells how what is held under these ids stands.
-fn tell_held<F: ExtensionFunctionObject>(
-    alloc: Global,
-    told: &mut String,
-    session: &Session<'_, '_, F>,
-    past: &Past<'_>,
-    response: &PartialResponse,
-    ids: &[PolicyID],
-) -> Result<(), AllocError>
-    ensures { OnOk result (Adds (TellsEach (TellsHeld (world_of session.now).policies response.now) ids.now) (string_bytes told.old) (string_bytes told.new)) }
-{
-    let untold = once(session.untold()?);
-    let policies = session.policies();
-    for id in ids {
-        let origin = past.origin_of(policies, id);
-        tell_one(
-            alloc,
-            told,
-            origin,
-            policies,
-            response,
-            id,
-            untold.as_slice(),
-        )?;
-    }
-    Ok(())
 }
 
 /// The ids of what is held, in its order.

@@ -1,21 +1,24 @@
 // Which policies the questions of tests try.
 ghost use Rattle.std.specs.Prelude.{◌≡◌, ◌||◌, ◌++◌, ◌∷◌, [], List, string_bytes, IfOk, OnOk};
 ghost use Rattle.cedar_evaluator.specs.declared.partial_response.PartialResponse.{PartialResponse as Response};
+ghost use Rattle.cedar_session.specs.Settings.{setting_with};
+ghost use Rattle.cedar_messages.specs.Telling.{Adds, TellsEach};
 ghost use Rattle.cedar_authoring.specs.Covering.{Keeps, TellsCovered, gap_of};
-ghost use Rattle.cedar_authoring.specs.Telling.{Adds, TellsEach};
+ghost use Rattle.cedar_authoring.specs.Scripts.{Went};
 
-use crate::checking::DEPTH;
-use crate::expecting::unless_memory;
 use crate::origins::Origin;
 use crate::past::Past;
+use crate::running::{Outcome, run_witnessed};
 use crate::scopes::{Asker, is_in_scope};
-use crate::scripts::{Step, Test};
-use crate::standing::{Standing, is_satisfied};
-use crate::telling::heading;
+use crate::standing::{Standing, Standings, is_satisfied};
+use crate::witness::Witness;
 use cedar_extensions::objects::ExtensionFunctionObject;
+use cedar_messages::telling::heading;
 use cedar_policies::policies::Policy;
 use cedar_policy_set::policy_map::PolicyMap;
-use cedar_session::{BODY_LIMIT, Command, Extensions, PartialResponse, PolicyID, Reply, Session};
+use cedar_refusals::checking::DEPTH;
+use cedar_scripts::{Step, Test};
+use cedar_session::{Extensions, PartialResponse, PolicyID, Reply, Session};
 use std::alloc::{AllocError, Global};
 
 /// How policies stood in the answers of tests: of each that was in force, a link as well as a static policy, whether it
@@ -100,24 +103,20 @@ impl Coverage {
         }
     }
 
-    /// Adds the answers of a test of the script that is named so: those which a session of its own gives to the commands
-    /// before the first test and then to those of the test. Refused for memory alone.
-    pub fn gather<F: ExtensionFunctionObject>(
+    /// Runs a test as [`run_test`](crate::run_test) does, and adds what its commands are answered. Refused for memory
+    /// alone; then some of it may be added.
+    pub fn run_test<F: ExtensionFunctionObject>(
         &mut self,
         alloc: Global,
         extensions: &Extensions<'_, F>,
         name: &str,
         set_up: &[Step],
         test: &Test,
-    ) -> Result<(), AllocError> {
-        let Ok(mut session) = Session::new(alloc, extensions, DEPTH) else {
-            return Err(AllocError);
-        };
-        let mut past = Past::new(alloc, name)?;
-        self.gather_steps(alloc, extensions, &mut session, &mut past, set_up)?;
-        let steps = test.steps.as_slice();
-        self.gather_steps(alloc, extensions, &mut session, &mut past, steps)?;
-        self.add_held(alloc, &session, &past)
+    ) -> Result<Outcome, AllocError>
+        ensures { IfOk result (λ outcome. Went (setting_with F.answers extensions.now DEPTH) set_up.now test.now outcome.passed (string_bytes outcome.text)) }
+    {
+        let mut witness = Witness::of(alloc, name, Some(self))?;
+        run_witnessed(alloc, extensions, &mut witness, set_up, test)
     }
 
     /// Tells of each policy that some answer didn't satisfy, or that none found unsatisfied in its scope, in the order in
@@ -132,40 +131,20 @@ impl Coverage {
         Ok(told)
     }
 
-    fn gather_steps<'t, F: ExtensionFunctionObject>(
+    /// Adds what a command of a test is answered.
+    pub(crate) fn add<'t, F: ExtensionFunctionObject>(
         &mut self,
         alloc: Global,
         extensions: &Extensions<'_, F>,
-        session: &mut Session<'_, '_, F>,
-        past: &mut Past<'t>,
-        steps: &'t [Step],
-    ) -> Result<(), AllocError> {
-        for step in steps {
-            self.gather_step(alloc, extensions, session, past, step)?;
-        }
-        Ok(())
-    }
-
-    fn gather_step<'t, F: ExtensionFunctionObject>(
-        &mut self,
-        alloc: Global,
-        extensions: &Extensions<'_, F>,
-        session: &mut Session<'_, '_, F>,
+        session: &Session<'_, '_, F>,
         past: &mut Past<'t>,
         step: &'t Step,
+        reply: &Reply,
     ) -> Result<(), AllocError> {
-        if step.body.len() > BODY_LIMIT {
-            return Ok(());
-        }
-        match session.apply(&Command::of(step.verb, step.body.as_str())) {
-            Ok(reply) => {
-                past.add(alloc, step, &reply)?;
-                match reply {
-                    Reply::Answer(_) => self.add_answer(alloc, extensions, session, past),
-                    _ => Ok(()),
-                }
-            }
-            Err(refusal) => unless_memory(refusal),
+        past.add(alloc, step, reply)?;
+        match reply {
+            Reply::Answer(_) => self.add_answer(alloc, extensions, session, past),
+            Reply::Ids(_) | Reply::Done => Ok(()),
         }
     }
 
@@ -175,7 +154,7 @@ impl Coverage {
         alloc: Global,
         extensions: &Extensions<'_, F>,
         session: &Session<'_, '_, F>,
-        past: &Past<'_>,
+        past: &mut Past<'_>,
     ) -> Result<(), AllocError> {
         let asker = past.asker(alloc, extensions, session)?;
         let Some(first) = session.response() else {
@@ -195,8 +174,9 @@ impl Coverage {
         asker: &Asker<'_, '_, '_, F>,
         response: &PartialResponse,
     ) -> Result<(), AllocError> {
+        let standings = Standings::of(alloc, response)?;
         for policy in session.policies().policies() {
-            let unsatisfied = match Standing::of(response, policy.id()) {
+            let unsatisfied = match standings.standing(policy.id()) {
                 Standing::NotSatisfied => is_in_scope(alloc, asker, policy)?,
                 _ => false,
             };
@@ -210,7 +190,7 @@ impl Coverage {
     }
 
     /// Adds the policies in force, where no answer had them.
-    fn add_held<F: ExtensionFunctionObject>(
+    pub(crate) fn add_held<F: ExtensionFunctionObject>(
         &mut self,
         alloc: Global,
         session: &Session<'_, '_, F>,

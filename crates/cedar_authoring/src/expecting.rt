@@ -4,10 +4,10 @@ ghost use Rattle.std.specs.FinMap as finite;
 ghost use Rattle.std.specs.List.{Contains};
 ghost use Rattle.cedar_replies.specs.Replies.{accepted, reply_of};
 ghost use Rattle.cedar_replies.specs.declared.refusal.Refusal.TheVariants as refusals;
+ghost use Rattle.cedar_messages.specs.Telling.{Adds, AreBelow};
 ghost use Rattle.cedar_authoring.specs.Scripts.{Fits, FitsCommand, HasStep, IsFed, TellsTest, answers_step, errs, is_whole, says};
-ghost use Rattle.cedar_authoring.specs.Telling.{Adds, AreBelow};
 
-use crate::scripts::{Script, Step};
+use cedar_scripts::{Script, Step};
 use cedar_session::{BODY_LIMIT, Erring, Refusal, Reply, line_in_memory};
 use std::alloc::{AllocError, Global};
 

@@ -8,22 +8,23 @@ ghost use Rattle.cedar_session.specs.Sessions.{setting_of, world_of};
 ghost use Rattle.cedar_session.specs.Settings.{setting_with};
 ghost use Rattle.cedar_trees.specs.Bare.{bare};
 ghost use Rattle.cedar_world.specs.Lines.{answer_line};
-ghost use Rattle.cedar_authoring.specs.Checks.{TellsFaults};
+ghost use Rattle.cedar_messages.specs.Telling.{Adds};
+ghost use Rattle.cedar_refusals.specs.Checks.{TellsFaults};
+ghost use Rattle.cedar_refusals.specs.Titles.{titled_text};
 ghost use Rattle.cedar_authoring.specs.Explaining.{status_of, TellsAnswered, TellsExplained, TellsPolicies, TellsUnexplained};
 ghost use Rattle.cedar_authoring.specs.Names.{names_left, names_of, TellsNames, AwaitedNamesSuffice};
-ghost use Rattle.cedar_authoring.specs.Telling.{Adds};
-ghost use Rattle.cedar_authoring.specs.Titles.{titled, titled_text};
+ghost use Rattle.cedar_authoring.specs.Titles.{titled};
 
-use crate::awaiting::{awaited, listed, once, push_standing};
-use crate::checking::{DEPTH, Report, refuse_unread};
-use crate::giving::{Refused, Source, read_source, tell_refusal};
-use crate::held::tell_one;
-use crate::origins::Origin;
-use crate::places::Places;
+use crate::awaiting::{awaited, push_standing};
+use crate::held::Held;
+use crate::past::Past;
 use cedar_extensions::objects::ExtensionFunctionObject;
 use cedar_parser::strict::parse_policyset;
 use cedar_policy_parts::annotations::Annotations;
 use cedar_policy_set::policy_map::PolicyMap;
+use cedar_refusals::checking::{DEPTH, Report, refuse_unread};
+use cedar_refusals::giving::{Refused, Source, read_source, tell_refusal};
+use cedar_refusals::naming::{listed, once};
 use cedar_session::{
     Answer, Decision, Extensions, PartialResponse, PolicyID, Refusal, Reply, Session, Verb,
     line_in_memory,
@@ -195,22 +196,9 @@ fn tell_policies<F: ExtensionFunctionObject>(
 ) -> Result<(), AllocError>
     ensures { OnOk result (Adds (TellsPolicies source.entry.name.now (world_of session.now).policies response.now ids.now) (string_bytes told.old) (string_bytes told.new)) }
 {
-    let untold = once(session.untold()?);
-    let policies = session.policies();
-    let places = Places::of(alloc, source.text)?;
-    let origin = Origin::of(source.name, &places);
-    for id in ids {
-        tell_one(
-            alloc,
-            told,
-            origin,
-            policies,
-            response,
-            id,
-            untold.as_slice(),
-        )?;
-    }
-    Ok(())
+    let past = Past::of_text(alloc, source.name, source.text)?;
+    let held = Held::of(alloc, session, response)?;
+    held.tell_each(alloc, told, &past, ids)
 }
 
 /// Until a name is told for which what is left of policies waits, none is told that stands there; and until then, a

@@ -8,44 +8,27 @@
 
 mod at_line;
 mod awaiting;
-mod body_faults;
-mod brackets;
-mod checking;
 mod covering;
-mod edit_faults;
-mod expected_tokens;
 mod expecting;
 mod explaining;
-mod faults;
-mod giving;
 mod held;
-mod helping;
-mod helping_tokens;
-mod helping_words;
-mod listing;
-mod marking;
 mod origins;
 mod past;
-mod places;
 mod reasons;
 mod running;
 mod scopes;
-mod scripts;
-mod shapes;
 mod standing;
-mod telling;
-mod value_faults;
+mod witness;
 mod wrong;
 
 pub use at_line::explained_at;
-pub use checking::{Checker, DEPTH, Report, check_text};
-pub use covering::Coverage;
-pub use explaining::{Named, awaited_names_suffice, explained};
-pub use faults::tell_faults;
-pub use helping::help_of;
-pub use places::{Position, line_and_column};
-pub use running::{Outcome, refuse_long, run_script, run_test};
-pub use scripts::{
+pub use cedar_messages::places::{Position, line_and_column};
+pub use cedar_messages::{help_of, tell_faults};
+pub use cedar_refusals::checking::{Checker, DEPTH, Report, check_text};
+pub use cedar_scripts::{
     Script, ScriptError, ScriptFault, Step, Test, faults_are_in_no_script, faults_are_one,
     lines_say_one_thing, read_script, texts_are_one_script,
 };
+pub use covering::Coverage;
+pub use explaining::{Named, awaited_names_suffice, explained};
+pub use running::{Outcome, refuse_long, run_script, run_test};

@@ -1,9 +1,9 @@
 // Where policies were loaded from.
 ghost use Rattle.std.specs.Prelude.{◌≡◌};
 
-use crate::places::{Places, Position};
-use crate::scripts::Step;
+use cedar_messages::places::{Places, Position};
 use cedar_names::places::Loc;
+use cedar_scripts::Step;
 
 /// The places of a text of policies, the name by which it is told of, and how many lines and columns stand before it.
 #[derive(Clone, Copy)]

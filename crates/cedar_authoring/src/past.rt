@@ -1,21 +1,22 @@
 // What the commands of a script did before a line.
 ghost use Rattle.std.specs.Prelude.{◌≡◌, ◌++◌, ◌∷◌, [], map, IfOk, IfSome, OnOk};
 ghost use Rattle.cedar_evaluator.specs.Holding.{error_seen};
+ghost use Rattle.cedar_authoring.specs.Pasts.{IsNamed, IsOfText};
 ghost use Rattle.cedar_authoring.specs.ScriptQuestions.{TakesUp};
 
-use crate::checking::DEPTH;
 use crate::origins::Origin;
-use crate::places::Places;
 use crate::scopes::Asker;
-use crate::scripts::Step;
 use cedar_evaluator::evaluator::evaluator_of;
 use cedar_evaluator::{AuthorizationError, Authorizer};
 use cedar_extensions::objects::ExtensionFunctionObject;
+use cedar_messages::places::Places;
 use cedar_parser::ExtStyles;
 use cedar_parser::prelude::StylesOfExtensions;
 use cedar_parser::strict::parse_restrictedexpr;
 use cedar_policy_set::policy_map::PolicyMap;
+use cedar_refusals::checking::DEPTH;
 use cedar_restricted::restricted::RestrictedExpr;
+use cedar_scripts::Step;
 use cedar_session::{
     Entities, Extensions, PartialResponse, PolicyID, PolicySet, Reply, Session, Verb,
 };
@@ -33,9 +34,13 @@ pub(crate) struct Past<'t> {
     loads: Vec<Load<'t>>,
     // Which of the loads it was.
     loaded: PolicyMap<usize>,
-    // That of no text.
-    nowhere: Places<'t>,
+    // Of what no command loaded.
+    text: Places<'t>,
     question: &'t str,
+    // As it was read, where that was wanted.
+    asked: Option<RestrictedExpr>,
+    // What was told of it, but for the texts that are yet to be read.
+    told: BTreeMap<RcStr, Value>,
     tells: Vec<&'t str>,
 }
 
@@ -49,12 +54,26 @@ struct Load<'t> {
 impl<'t> Past<'t> {
     /// Nothing yet, of the script that is named so. Refused for memory alone.
     pub(crate) fn new(alloc: Global, script: &'t str) -> Result<Past<'t>, AllocError> {
+        Past::of_text(alloc, script, "")
+    }
+
+    /// That all comes from one text, which is named so. Refused for memory alone.
+    pub(crate) fn of_text(
+        alloc: Global,
+        name: &'t str,
+        text: &'t str,
+    ) -> Result<Past<'t>, AllocError>
+        ensures alone { IfOk result (λ past. IsOfText past) }
+        ensures name { IfOk result (λ past. past.script.now ≡ name.now) }
+    {
         Ok(Past {
-            script,
+            script: name,
             loads: Vec::new(alloc),
             loaded: PolicyMap::new(alloc),
-            nowhere: Places::of(alloc, "")?,
+            text: Places::of(alloc, text)?,
             question: "",
+            asked: None,
+            told: BTreeMap::new(alloc),
             tells: Vec::new(alloc),
         })
     }
@@ -68,7 +87,7 @@ impl<'t> Past<'t> {
     ) -> Result<(), AllocError> {
         match reply {
             Reply::Ids(ids) => self.add_load(alloc, step, ids.as_slice()),
-            Reply::Answer(_) => self.add_question(step),
+            Reply::Answer(_) => self.add_question(alloc, step),
             Reply::Done => Ok(()),
         }
     }
@@ -89,26 +108,30 @@ impl<'t> Past<'t> {
     }
 
     /// Adds a command that asks or tells.
-    pub(crate) fn add_question(&mut self, step: &'t Step) -> Result<(), AllocError> {
+    pub(crate) fn add_question(&mut self, alloc: Global, step: &'t Step) -> Result<(), AllocError> {
         let text = step.body.as_str();
         if let Verb::Tell = step.verb {
             self.tells.push(text)?;
         } else {
             self.question = text;
+            self.asked = None;
+            self.told = BTreeMap::new(alloc);
             self.tells.clear();
         }
         Ok(())
     }
 
     /// Where the policy or the template of this id comes from; of a link, its template.
-    pub(crate) fn origin_of(&self, policies: &PolicySet, id: &PolicyID) -> Origin<'_, 't> {
+    pub(crate) fn origin_of(&self, policies: &PolicySet, id: &PolicyID) -> Origin<'_, 't>
+        ensures { IsNamed self.now result.name.now }
+    {
         let id = match policies.get(id) {
             Some(policy) => policy.template().id(),
             None => id,
         };
         match self.load_of(id) {
             Some(load) => Origin::of_step(self.script, load.step, &load.places),
-            None => Origin::of(self.script, &self.nowhere),
+            None => Origin::of(self.script, &self.text),
         }
     }
 
@@ -119,22 +142,37 @@ impl<'t> Past<'t> {
 
     /// What evaluates expressions for the open question as it was asked. Refused for memory alone.
     pub(crate) fn asker<'s, 'e, 'f, F: ExtensionFunctionObject>(
-        &self,
+        &mut self,
         alloc: Global,
         extensions: &'e Extensions<'f, F>,
         session: &'s Session<'_, '_, F>,
     ) -> Result<Asker<'s, 'e, 'f, F>, AllocError> {
-        let question = body_of(alloc, extensions, self.question)?;
-        match request_of(alloc, &question, extensions, DEPTH) {
+        self.read_question(alloc, extensions)?;
+        let Some(question) = &self.asked else {
+            return Err(AllocError);
+        };
+        match request_of(alloc, question, extensions, DEPTH) {
             Ok(request) => evaluator_of(alloc, &request, session.entities(), extensions, DEPTH),
             Err(_) => Err(AllocError),
         }
     }
 
+    /// Reads the open question, where that wasn't done.
+    fn read_question<F: ExtensionFunctionObject>(
+        &mut self,
+        alloc: Global,
+        extensions: &Extensions<'_, F>,
+    ) -> Result<(), AllocError> {
+        if self.asked.is_none() {
+            self.asked = Some(body_of(alloc, extensions, self.question)?);
+        }
+        Ok(())
+    }
+
     /// The response to the open question taken up again with all that was told since, its errors kept; None where nothing
-    /// was. Refused for memory alone.
+    /// was. Reads each text that tells once. Refused for memory alone.
     pub(crate) fn retold<F: ExtensionFunctionObject>(
-        &self,
+        &mut self,
         alloc: Global,
         extensions: &Extensions<'_, F>,
         entities: &Entities,
@@ -142,29 +180,35 @@ impl<'t> Past<'t> {
     ) -> Result<Option<PartialResponse>, AllocError>
         ensures { IfOk result (λ retold. IfSome retold (λ response. TakesUp first.now response)) }
     {
-        if self.tells.is_empty() {
+        self.read_tells(alloc, extensions)?;
+        if self.told.is_empty() {
             return Ok(None);
         }
-        let told = self.told(alloc, extensions)?;
         let authorizer = Authorizer::new(extensions, DEPTH);
-        match first.reauthorize(alloc, &told, &authorizer, entities) {
+        match first.reauthorize(alloc, &self.told, &authorizer, entities) {
             Ok(again) => Ok(Some(with_errors(alloc, again, first.errors.as_slice())?)),
             Err(_) => Err(AllocError),
         }
     }
 
-    /// What was told of the open question. Refused for memory alone.
-    fn told<F: ExtensionFunctionObject>(
-        &self,
+    /// Reads what was told of the open question since this was last done. Refused for memory alone.
+    fn read_tells<F: ExtensionFunctionObject>(
+        &mut self,
         alloc: Global,
         extensions: &Extensions<'_, F>,
-    ) -> Result<BTreeMap<RcStr, Value>, AllocError> {
-        let question = body_of(alloc, extensions, self.question)?;
-        let mut told = BTreeMap::new(alloc);
-        for text in &self.tells {
-            told = told_besides(alloc, extensions, &question, &told, text)?;
+    ) -> Result<(), AllocError> {
+        if self.tells.is_empty() {
+            return Ok(());
         }
-        Ok(told)
+        self.read_question(alloc, extensions)?;
+        let Some(question) = &self.asked else {
+            return Err(AllocError);
+        };
+        for text in &self.tells {
+            self.told = told_besides(alloc, extensions, question, &self.told, text)?;
+        }
+        self.tells.clear();
+        Ok(())
     }
 }
 

@@ -1,12 +1,11 @@
 // What is told of an answer that isn't expected: why policies err, and that an open question has no context.
 ghost use Rattle.std.specs.Prelude.{string_bytes, IfOk, OnOk};
-ghost use Rattle.cedar_authoring.specs.Telling.{Adds, AreBelow};
+ghost use Rattle.cedar_messages.specs.Telling.{Adds, AreBelow};
 
-use crate::awaiting::stands;
-use crate::standing::error_of;
-use crate::telling::push_indented;
-use cedar_extensions::evaluation_error::EvaluationError;
+use crate::standing::Standings;
 use cedar_extensions::objects::ExtensionFunctionObject;
+use cedar_messages::telling::push_indented;
+use cedar_refusals::naming::stands;
 use cedar_session::{Answer, ErrorKind, PolicyID, Session};
 use std::alloc::{AllocError, Global};
 
@@ -21,8 +20,12 @@ pub(crate) fn tell_reasons<F: ExtensionFunctionObject>(
 ) -> Result<(), AllocError>
     ensures { OnOk result (Adds AreBelow (string_bytes told.old) (string_bytes told.new)) }
 {
+    let Some(response) = session.response() else {
+        return Err(AllocError);
+    };
+    let asked = Standings::of(alloc, response)?;
     for (id, kind) in answer.erring.as_slice() {
-        tell_erring(alloc, session, told, id, *kind)?;
+        tell_erring(alloc, told, &asked, id, *kind)?;
     }
     if answer.decision.is_none() && has_no_context(session)? {
         push_indented(told, NO_CONTEXT)?;
@@ -38,27 +41,19 @@ fn has_no_context<F: ExtensionFunctionObject>(
     Ok(stands(untold.as_slice(), "context"))
 }
 
-fn tell_erring<F: ExtensionFunctionObject>(
+/// Tells that a policy errs, and why, where it erred when the question was asked.
+fn tell_erring(
     alloc: Global,
-    session: &Session<'_, '_, F>,
     told: &mut String,
+    asked: &Standings<'_>,
     id: &PolicyID,
     kind: ErrorKind,
 ) -> Result<(), AllocError>
     ensures { OnOk result (Adds AreBelow (string_bytes told.old) (string_bytes told.new)) }
 {
-    let line = match error_in(session, id) {
+    let line = match asked.error(id) {
         Some(error) => format!(in alloc; "{} errs: {}: {error}", id.as_str(), kind.name())?,
         None => format!(in alloc; "{} errs: {}", id.as_str(), kind.name())?,
     };
     push_indented(told, line.as_str())
-}
-
-/// Why a policy erred when the open question was asked.
-fn error_in<'s, F: ExtensionFunctionObject>(
-    session: &'s Session<'_, '_, F>,
-    id: &PolicyID,
-) -> Option<&'s EvaluationError> {
-    let response = session.response()?;
-    error_of(response.errors.as_slice(), id)
 }

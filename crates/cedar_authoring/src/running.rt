@@ -2,16 +2,17 @@
 ghost use Rattle.std.specs.Prelude.{◌≡◌, ◌⊎◌, ◌++◌, ◌&&◌, All, false, string_bytes, IfNone, IfOk, IfSome, OnOk};
 ghost use Rattle.cedar_session.specs.Settings.{setting_with};
 ghost use Rattle.cedar_session.specs.Sessions.{setting_of, world_of};
+ghost use Rattle.cedar_messages.specs.Telling.{Adds, AreBelow};
 ghost use Rattle.cedar_authoring.specs.Scripts.{AreAnswered, Fits, FitsCommand, IsAnswered, Passes, TellsLong, TellsScript, TellsTest, Went};
-ghost use Rattle.cedar_authoring.specs.Telling.{Adds, AreBelow};
 
-use crate::checking::{DEPTH, Report};
 use crate::expecting::{first_long, is_expected, long_among, tell_test};
 use crate::reasons::tell_reasons;
-use crate::scripts::{Script, Step, Test};
-use crate::telling::push_indented;
+use crate::witness::Witness;
 use crate::wrong::tell_wrong;
 use cedar_extensions::objects::ExtensionFunctionObject;
+use cedar_messages::telling::push_indented;
+use cedar_refusals::checking::{DEPTH, Report};
+use cedar_scripts::{Script, Step, Test};
 use cedar_session::{Command, Extensions, Refusal, Reply, Session};
 use std::alloc::{AllocError, Global};
 
@@ -104,15 +105,29 @@ pub fn run_test<F: ExtensionFunctionObject>(
 ) -> Result<Outcome, AllocError>
     ensures { IfOk result (λ outcome. Went (setting_with F.answers extensions.now DEPTH) set_up.now test.now outcome.passed (string_bytes outcome.text)) }
 {
+    let mut witness = Witness::of(alloc, name, None)?;
+    run_witnessed(alloc, extensions, &mut witness, set_up, test)
+}
+
+/// The same of a test that a witness follows.
+pub(crate) fn run_witnessed<'t, F: ExtensionFunctionObject>(
+    alloc: Global,
+    extensions: &Extensions<'_, F>,
+    witness: &mut Witness<'_, 't>,
+    set_up: &'t [Step],
+    test: &'t Test,
+) -> Result<Outcome, AllocError>
+    ensures { IfOk result (λ outcome. Went (setting_with F.answers extensions.now DEPTH) set_up.now test.now outcome.passed (string_bytes outcome.text)) }
+{
     let mut text = String::new(alloc);
     if let Some(step) = long_of(set_up, test.steps.as_slice()) {
-        fail_long(alloc, &mut text, name, test, step)?;
+        fail_long(alloc, &mut text, witness.script, test, step)?;
         return Ok(Outcome {
             passed: false,
             text,
         });
     }
-    let passed = run_fitting(alloc, extensions, &mut text, name, set_up, test)?;
+    let passed = run_fitting(alloc, extensions, &mut text, witness, set_up, test)?;
     Ok(Outcome { passed, text })
 }
 
@@ -147,13 +162,13 @@ fn fail_long(
 }
 
 /// Runs a test in a session of its own, tells of it, and answers whether it passed.
-fn run_fitting<F: ExtensionFunctionObject>(
+fn run_fitting<'t, F: ExtensionFunctionObject>(
     alloc: Global,
     extensions: &Extensions<'_, F>,
     told: &mut String,
-    name: &str,
-    set_up: &[Step],
-    test: &Test,
+    witness: &mut Witness<'_, 't>,
+    set_up: &'t [Step],
+    test: &'t Test,
 ) -> Result<bool, AllocError>
     requires set_up { All FitsCommand set_up.now }
     requires test { All FitsCommand test.now.steps.items }
@@ -164,28 +179,23 @@ fn run_fitting<F: ExtensionFunctionObject>(
         return Err(AllocError);
     };
     let mut wrong = String::new(alloc);
-    let before = run_steps(alloc, extensions, &mut session, &mut wrong, name, set_up)?;
-    let after = run_steps(
-        alloc,
-        extensions,
-        &mut session,
-        &mut wrong,
-        name,
-        test.steps.as_slice(),
-    )?;
+    let before = run_steps(alloc, extensions, &mut session, &mut wrong, witness, set_up)?;
+    let steps = test.steps.as_slice();
+    let after = run_steps(alloc, extensions, &mut session, &mut wrong, witness, steps)?;
+    witness.end(alloc, &session)?;
     let passed = both(before, after);
     tell_test(told, test.name.as_str(), passed, wrong.as_str())?;
     Ok(passed)
 }
 
 /// Gives a session these commands, tells what is answered otherwise than expected, and answers whether nothing is.
-fn run_steps<F: ExtensionFunctionObject>(
+fn run_steps<'t, F: ExtensionFunctionObject>(
     alloc: Global,
     extensions: &Extensions<'_, F>,
     session: &mut Session<'_, '_, F>,
     wrong: &mut String,
-    name: &str,
-    steps: &[Step],
+    witness: &mut Witness<'_, 't>,
+    steps: &'t [Step],
 ) -> Result<bool, AllocError>
     requires fits { All FitsCommand steps.now }
     ensures answered { IfOk result (λ fine. AreAnswered (setting_of session.old) (world_of session.old) steps.now (world_of session.new) fine) }
@@ -194,7 +204,7 @@ fn run_steps<F: ExtensionFunctionObject>(
 {
     let mut fine = true;
     for step in steps {
-        let expected = run_step(alloc, extensions, session, wrong, name, step)?;
+        let expected = run_step(alloc, extensions, session, wrong, witness, step)?;
         fine = both(fine, expected);
     }
     Ok(fine)
@@ -207,13 +217,13 @@ fn both(a: bool, b: bool) -> bool
 }
 
 /// Gives a session a command, and answers whether it is answered as is expected; tells of it where it isn't.
-fn run_step<F: ExtensionFunctionObject>(
+fn run_step<'t, F: ExtensionFunctionObject>(
     alloc: Global,
     extensions: &Extensions<'_, F>,
     session: &mut Session<'_, '_, F>,
     wrong: &mut String,
-    name: &str,
-    step: &Step,
+    witness: &mut Witness<'_, 't>,
+    step: &'t Step,
 ) -> Result<bool, AllocError>
     requires fits { FitsCommand step.now }
     ensures answered { IfOk result (λ fine. IsAnswered (setting_of session.old) (world_of session.old) step.now (world_of session.new) fine) }
@@ -221,10 +231,12 @@ fn run_step<F: ExtensionFunctionObject>(
     ensures setting { setting_of session.new ≡ setting_of session.old }
 {
     let outcome = session.apply(&Command::of(step.verb, step.body.as_str()));
+    witness.see(alloc, extensions, session, step, &outcome)?;
     let fine = is_expected(alloc, step, &outcome)?;
     if fine {
         return Ok(fine);
     }
+    let name = witness.script;
     tell_unexpected(alloc, extensions, session, wrong, name, step, &outcome)?;
     Ok(fine)
 }

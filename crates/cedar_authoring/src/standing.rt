@@ -3,17 +3,20 @@ ghost use Rattle.std.specs.Prelude.{◌≡◌, is_some, string_bytes, IfOk, OnOk
 ghost use Rattle.cedar_evaluator.specs.Holding.{error_seen};
 ghost use Rattle.cedar_evaluator.specs.declared.partial_response.PartialResponse.{PartialResponse as Response};
 ghost use Rattle.cedar_policies.specs.Policies.{policy_id};
-ghost use Rattle.cedar_authoring.specs.Standing.{is_in, is_open, is_satisfied, standing_words, TellsStanding};
+ghost use Rattle.cedar_messages.specs.Telling.{Adds, AreBelow};
+ghost use Rattle.cedar_authoring.specs.Standing.{has_erred, is_open, is_satisfied, standing_words, AreOf, AreOneMore, TellsStanding};
+ghost use Rattle.cedar_authoring.specs.Standing.{HaveErred};
 ghost use Rattle.cedar_authoring.specs.StandingWords.{words_of};
-ghost use Rattle.cedar_authoring.specs.Telling.{Adds, AreBelow};
 
-use crate::awaiting::{awaited, listed, push_standing};
-use crate::listing::described;
+use crate::awaiting::{awaited, push_standing};
 use crate::origins::Origin;
-use crate::telling::{push_indented, tell_line};
 use cedar_evaluator::AuthorizationError;
 use cedar_extensions::evaluation_error::EvaluationError;
+use cedar_messages::telling::{push_indented, tell_line};
 use cedar_policies::policies::Policy;
+use cedar_policy_set::policy_map::PolicyMap;
+use cedar_refusals::listing::described;
+use cedar_refusals::naming::listed;
 use cedar_session::{PartialResponse, PolicyID};
 use cedar_trees::expr::Expr;
 use std::alloc::{AllocError, Global};
@@ -29,22 +32,6 @@ pub(crate) enum Standing<'r> {
 }
 
 impl<'r> Standing<'r> {
-    /// How the policy of this id stands.
-    pub(crate) fn of(response: &'r PartialResponse, id: &PolicyID) -> Standing<'r>
-        ensures { words_of result ≡ standing_words response.now id.now }
-    {
-        if is_satisfied(response, id) {
-            return Standing::Satisfied;
-        }
-        if let Some(rest) = rest_of(response, id) {
-            return Standing::Open(rest);
-        }
-        match error_of(response.errors.as_slice(), id) {
-            Some(error) => Standing::Errs(error),
-            None => Standing::NotSatisfied,
-        }
-    }
-
     /// How a line that tells of it ends.
     fn words(self) -> &'static str
         ensures { result.now ≡ words_of self.entry }
@@ -54,6 +41,79 @@ impl<'r> Standing<'r> {
             Standing::NotSatisfied => " is not satisfied",
             Standing::Errs(_) => " errs",
             Standing::Open(_) => " is open",
+        }
+    }
+}
+
+/// How policies stood when a question was asked, each found by its id.
+#[derive(Drop)]
+pub(crate) struct Standings<'r> {
+    pub(crate) response: &'r PartialResponse,
+    // Why policies err.
+    errors: PolicyMap<&'r EvaluationError>,
+    ghost errors_are: { HaveErred errors response.now },
+}
+
+impl<'r> Standings<'r> {
+    /// How they stood by this response. Refused for memory alone.
+    pub(crate) fn of(
+        alloc: Global,
+        response: &'r PartialResponse,
+    ) -> Result<Standings<'r>, AllocError>
+        ensures { IfOk result (λ standings. standings.response.now ≡ response.now) }
+    {
+        let errors = errors_by_id(alloc, response.errors.as_slice())?;
+        Ok(Standings { response, errors })
+    }
+
+    /// How the policy of this id stands.
+    pub(crate) fn standing(&self, id: &PolicyID) -> Standing<'r>
+        ensures { words_of result ≡ standing_words self.now.response.now id.now }
+    {
+        if is_satisfied(self.response, id) {
+            return Standing::Satisfied;
+        }
+        if let Some(rest) = rest_of(self.response, id) {
+            return Standing::Open(rest);
+        }
+        match self.error(id) {
+            Some(error) => Standing::Errs(error),
+            None => Standing::NotSatisfied,
+        }
+    }
+
+    /// Why the policy of this id errs, if it does.
+    pub(crate) fn error(&self, id: &PolicyID) -> Option<&'r EvaluationError>
+        ensures { is_some result ≡ has_erred self.now.response.now id.now }
+    {
+        self.errors.get(id).copied()
+    }
+}
+
+/// Why policies err, by their ids.
+fn errors_by_id<'r>(
+    alloc: Global,
+    errors: &'r [AuthorizationError],
+) -> Result<PolicyMap<&'r EvaluationError>, AllocError>
+    ensures { IfOk result (λ by_id. AreOf by_id (map error_seen errors.now)) }
+{
+    let mut by_id = PolicyMap::new(alloc);
+    for failed in errors {
+        add_error(&mut by_id, failed)?;
+    }
+    Ok(by_id)
+}
+
+fn add_error<'r>(
+    by_id: &mut PolicyMap<&'r EvaluationError>,
+    failed: &'r AuthorizationError,
+) -> Result<(), AllocError>
+    ensures { OnOk result (AreOneMore by_id.old by_id.new (error_seen failed.now).0) }
+{
+    match failed {
+        AuthorizationError::PolicyEvaluationError { id, error } => {
+            by_id.insert(id.clone()?, error)?;
+            Ok(())
         }
     }
 }
@@ -75,25 +135,6 @@ fn rest_of<'r>(response: &'r PartialResponse, id: &PolicyID) -> Option<&'r Expr>
         Some(kept) => Some(&kept.0),
         None => None,
     }
-}
-
-/// Why the policy of this id errs, if it does.
-pub(crate) fn error_of<'r>(
-    errors: &'r [AuthorizationError],
-    id: &PolicyID,
-) -> Option<&'r EvaluationError>
-    ensures { is_some result ≡ is_in id.now (map error_seen errors.now) }
-{
-    for failed in errors {
-        match failed {
-            AuthorizationError::PolicyEvaluationError { id: of, error } => {
-                if of == id {
-                    return Some(error);
-                }
-            }
-        }
-    }
-    None
 }
 
 /// Tells how a policy of a text stands.

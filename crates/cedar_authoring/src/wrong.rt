@@ -1,11 +1,11 @@
 // What is told of a command that isn't answered as is expected.
 ghost use Rattle.std.specs.Prelude.{string_bytes, OnOk};
-ghost use Rattle.cedar_authoring.specs.Telling.{Adds, AreBelow};
+ghost use Rattle.cedar_messages.specs.Telling.{Adds, AreBelow};
 
-use crate::giving::{Refused, Source, faults_told};
-use crate::scripts::Step;
-use crate::telling::{push_indented, push_on_line};
 use cedar_extensions::objects::ExtensionFunctionObject;
+use cedar_messages::telling::{push_indented, push_on_line};
+use cedar_refusals::giving::{Refused, Source, faults_told};
+use cedar_scripts::Step;
 use cedar_session::{Extensions, Refusal, Reply, Session, line_in_memory};
 use std::alloc::{AllocError, Global};
 

@@ -7,6 +7,7 @@ use crate::output::{Stop, print, say, warn};
 use crate::{FINE, REFUSED, SCRIPT_FAULT};
 use cedar_authoring::{Coverage, Outcome, Script, Test, refuse_long, run_script, run_test};
 use cedar_session::{ExtensionFunctionObject, Extensions};
+use std::collections::BTreeMap;
 use std::fs;
 
 /// What the words ask of tests.
@@ -171,8 +172,7 @@ fn tell_oddities(rt: &HostRuntime, file: &str, script: &Script) -> Result<(), St
         let line = format!(in rt.alloc(); "{file}: no tests")?;
         return say(rt, line.as_str());
     }
-    tell_twice(rt, file, script);
-    Ok(())
+    tell_twice(rt, file, script.tests.as_slice())
 }
 
 fn run_one<F: ExtensionFunctionObject>(
@@ -185,12 +185,13 @@ fn run_one<F: ExtensionFunctionObject>(
     test: &Test,
 ) -> Result<(), Stop> {
     let set_up = script.set_up.as_slice();
-    let outcome = run_test(rt.alloc(), extensions, file, set_up, test)?;
-    tally.count(outcome.passed);
-    if asked.options.coverage {
+    let outcome = if asked.options.coverage {
         let coverage = &mut tally.coverage;
-        coverage.gather(rt.alloc(), extensions, file, set_up, test)?;
-    }
+        coverage.run_test(rt.alloc(), extensions, file, set_up, test)?
+    } else {
+        run_test(rt.alloc(), extensions, file, set_up, test)?
+    };
+    tally.count(outcome.passed);
     if asked.options.junit.is_some() {
         add_to_suite(&mut tally.junit, file, test, &outcome)?;
     }
@@ -294,26 +295,32 @@ fn tell_unmet(rt: &HostRuntime, asked: Asked<'_>, tally: &mut Tally<'_>) {
     }
 }
 
-fn tell_twice(rt: &HostRuntime, file: &str, script: &Script) {
-    for test in &script.tests {
-        if let Some(line) = line_before(script, test) {
-            let _ = eprintln!(rt;
-                "{file}:{}: a test of this name stands in line {line}",
-                test.line
-            );
-        }
+/// Says which of these tests have the name of one before.
+fn tell_twice(rt: &HostRuntime, file: &str, tests: &[Test]) -> Result<(), Stop> {
+    let mut lines = BTreeMap::new(rt.alloc());
+    for test in tests {
+        tell_met(rt, file, &mut lines, test)?;
     }
+    Ok(())
 }
 
-/// The line of the first test of the same name, if that isn't the test.
-fn line_before(script: &Script, test: &Test) -> Option<usize> {
+/// Says in which line a test of this name stands, where one is met before; else keeps the line of this one.
+fn tell_met<'t>(
+    rt: &HostRuntime,
+    file: &str,
+    lines: &mut BTreeMap<&'t str, usize>,
+    test: &'t Test,
+) -> Result<(), Stop> {
     let name = test.name.as_str();
-    let first = script.tests.iter().find(|it| it.name.as_str() == name)?;
-    if first.line == test.line {
-        None
-    } else {
-        Some(first.line)
+    if let Some(line) = lines.get(&name) {
+        let _ = eprintln!(rt;
+            "{file}:{}: a test of this name stands in line {line}",
+            test.line
+        );
+        return Ok(());
     }
+    lines.insert(name, test.line)?;
+    Ok(())
 }
 
 /// Tells what holds of all scripts.

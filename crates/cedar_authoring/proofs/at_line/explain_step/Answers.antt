@@ -10,7 +10,7 @@ use Rattle.cedar_world.specs.Setting.{Setting}
 use Rattle.cedar_world.specs.Step.{Step as Steps}
 use Rattle.cedar_authoring.specs.Explaining.{status_of}
 use Rattle.cedar_authoring.specs.ScriptQuestions.{IsStopped, TellsAnswer, TellsAsked}
-use Rattle.cedar_authoring.specs.declared.checking.Report.{Report}
+use Rattle.cedar_refusals.specs.declared.checking.Report.{Report}
 use Rattle.cedar_authoring.proofs.Refusals.{both_ok, never_one, other_refusal, some_status}
 use Rattle.cedar_authoring.proofs.at_line.explain_step.Goals as goal
 

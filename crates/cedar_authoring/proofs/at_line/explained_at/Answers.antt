@@ -6,7 +6,7 @@ use Rattle.cedar_session.specs.Sessions.{setting_of, world_of}
 use Rattle.cedar_world.specs.Setting.{Setting}
 use Rattle.cedar_world.specs.World.{World, new_world}
 use Rattle.cedar_authoring.specs.ScriptQuestions.{GoesThrough, IsStopped, IsUnasked, StopsAmong, TellsAnswer, TellsExplainedAt, nothing_asked}
-use Rattle.cedar_authoring.specs.declared.checking.Report.{Report}
+use Rattle.cedar_refusals.specs.declared.checking.Report.{Report}
 use Rattle.cedar_authoring.proofs.Going.{explains_there, stops_first, stops_later, stops_there}
 use Rattle.cedar_authoring.proofs.at_line.explained_at.Goals as goal
 

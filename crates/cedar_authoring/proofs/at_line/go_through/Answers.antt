@@ -4,8 +4,8 @@ use Rattle.std.proofs.lemmas.List.{take_all}
 use Rattle.cedar_session.specs.Sessions.{setting_of, world_of}
 use Rattle.cedar_world.specs.Setting.{Setting}
 use Rattle.cedar_authoring.specs.ScriptQuestions.{GoesOn, GoesThrough, IsStopped}
-use Rattle.cedar_authoring.specs.declared.checking.Report.{Report}
-use Rattle.cedar_authoring.specs.declared.scripts.script.Step.{Step}
+use Rattle.cedar_refusals.specs.declared.checking.Report.{Report}
+use Rattle.cedar_scripts.specs.declared.script.Step.{Step}
 use Rattle.cedar_authoring.proofs.Going.{through_nothing, through_more, stops_at}
 use Rattle.cedar_authoring.proofs.at_line.go_through.Goals as goal
 

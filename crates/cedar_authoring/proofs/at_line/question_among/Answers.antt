@@ -1,7 +1,7 @@
 -- None so far asks there (Fitting, Going).
 use Rattle.std.proofs.Common.{◌≡◌, ◌++◌, ◌∷◌, ◌+◌, ℕ, List, drop, take, refl, ap, sym, subst, ◌∙◌, arith}
 use Rattle.cedar_authoring.specs.ScriptQuestions.{AsksAt}
-use Rattle.cedar_authoring.specs.declared.scripts.script.Step.{Step}
+use Rattle.cedar_scripts.specs.declared.script.Step.{Step}
 use Rattle.cedar_authoring.proofs.Fitting.{all_more, all_none, all_taken}
 use Rattle.cedar_authoring.proofs.Going.{split_at}
 use Rattle.cedar_authoring.proofs.at_line.question_among.Goals as goal

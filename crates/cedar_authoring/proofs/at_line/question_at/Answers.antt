@@ -1,8 +1,8 @@
 -- None so far asks there; the one that does is of the set-up, or of a test (Fitting, Going).
 use Rattle.std.proofs.Common.{◌≡◌, ◌∙◌, ◌++◌, ◌∷◌, [], ℕ, ◌<◌, All, List, length, get_or, inl, inr, ap, refl, sym, subst, arith}
 use Rattle.cedar_authoring.specs.ScriptQuestions.{AsksAt}
-use Rattle.cedar_authoring.specs.declared.scripts.script.Step.{Step}
-use Rattle.cedar_authoring.specs.declared.scripts.script.Test.{Test}
+use Rattle.cedar_scripts.specs.declared.script.Step.{Step}
+use Rattle.cedar_scripts.specs.declared.script.Test.{Test}
 use Rattle.cedar_authoring.proofs.Fitting.{all_more, all_taken}
 use Rattle.cedar_authoring.proofs.Going.{nothing_at}
 use Rattle.cedar_authoring.proofs.at_line.question_at.Goals as goal

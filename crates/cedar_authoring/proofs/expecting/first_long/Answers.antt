@@ -2,8 +2,8 @@
 use Rattle.std.proofs.Common.{◌≡◌, ℕ, ◌<◌, All, List, length, get_or, inr, ap, sym, subst, arith}
 use Rattle.std.specs.List.{Contains}
 use Rattle.cedar_authoring.specs.Scripts.{FitsCommand}
-use Rattle.cedar_authoring.specs.declared.scripts.script.Step.{Step}
-use Rattle.cedar_authoring.specs.declared.scripts.script.Test.{Test}
+use Rattle.cedar_scripts.specs.declared.script.Step.{Step}
+use Rattle.cedar_scripts.specs.declared.script.Test.{Test}
 use Rattle.cedar_authoring.proofs.Fitting.{all_more, all_taken}
 use Rattle.cedar_authoring.proofs.expecting.first_long.Goals as goal
 

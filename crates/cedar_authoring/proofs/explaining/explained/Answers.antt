@@ -6,9 +6,9 @@ use Rattle.cedar_session.specs.Settings.{setting_with}
 use Rattle.cedar_world.specs.Setting.{Setting}
 use Rattle.cedar_authoring.specs.Explaining.{TellsNoText, TellsUnexplained, Titled}
 use Rattle.cedar_authoring.specs.Titles.{titled, titled_text}
-use Rattle.cedar_authoring.specs.declared.checking.Report.{Report}
+use Rattle.cedar_refusals.specs.declared.checking.Report.{Report}
 use Rattle.cedar_authoring.specs.declared.explaining.Named.{Named}
-use Rattle.cedar_authoring.specs.declared.giving.Source.{Source}
+use Rattle.cedar_refusals.specs.declared.giving.Source.{Source}
 use Rattle.cedar_authoring.proofs.explaining.explained.Goals as goal
 
 given : {A E : Type 0} (read : Result A E) (a : A) (P : A → Type 0) → read ≡ Ok a → IfOk read P → P a

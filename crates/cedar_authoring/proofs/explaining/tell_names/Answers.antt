@@ -6,7 +6,7 @@ use Rattle.cedar_session.specs.Lending.{is_untold}
 use Rattle.cedar_session.specs.Sessions.{world_of}
 use Rattle.cedar_world.specs.Lines.{listed}
 use Rattle.cedar_world.specs.Orders.{text_eq}
-use Rattle.cedar_authoring.specs.Awaiting.{in_quotes}
+use Rattle.cedar_refusals.specs.Naming.{in_quotes}
 use Rattle.cedar_authoring.specs.Names.{names_left}
 use Rattle.cedar_authoring.proofs.Waiting.{to_tell}
 use Rattle.cedar_authoring.proofs.explaining.tell_names.Goals as goal

@@ -1,24 +1,26 @@
--- Of one id more it is told what is held under it (Told).
-use Rattle.std.proofs.Common.{subst, string_bytes, arith}
+-- All comes from the one text, and is told of by its name (PastsTold).
+use Rattle.std.proofs.Common.{subst, string_bytes}
+use Rattle.std.proofs.lemmas.Result.{on_ok_weaker}
+use Rattle.cedar_evaluator.specs.declared.partial_response.PartialResponse.{PartialResponse}
 use Rattle.cedar_held.specs.PolicyWorlds.{policies_in}
 use Rattle.cedar_language.specs.Uid.{Text}
-use Rattle.cedar_session.specs.Sessions.{world_of}
 use Rattle.cedar_world.specs.World.{Policies}
-use Rattle.cedar_authoring.specs.Explaining.{TellsOne}
-use Rattle.cedar_authoring.specs.Telling.{Adds}
-use Rattle.cedar_authoring.proofs.Told.{Adds-more}
+use Rattle.cedar_messages.specs.Telling.{Adds}
+use Rattle.cedar_authoring.specs.Explaining.{TellsPolicies}
+use Rattle.cedar_authoring.proofs.PastsTold.{told_of_text}
 use Rattle.cedar_authoring.proofs.explaining.tell_policies.Goals as goal
 
-pub loop-id-preserved : goal.loop-id-preserved
-loop-id-preserved g c =
-    let name = c.args.source.name.now in
-    let response = c.args.response.now in
-    let policies = (world_of c.args.session.now).policies in
-    let id = c.id-item.result in
-    let old = string_bytes c.loop-id.told in
-    let new = string_bytes c.tell_one.new.told in
-    let P : Text → Policies → Type 0 = λ n ps. Adds (TellsOne n ps response id) old new in
-    let one = c.in_ok-tell_one.ensures c.policies-policies.ensures.slots in
-    let named = subst (λ n. P n (policies_in c.policies-policies.result.now)) c.of-origin.ensures one in
-    Adds-more (TellsOne name policies response) c.args.ids.now c.loop-id.id-index id (string_bytes c.args.told.now) old new
-    (omega arith) c.id-item.is c.loop-id.invariant (subst (λ ps. P name ps) c.policies-policies.ensures.policies named)
+pub returns : goal.returns
+returns g c =
+    let past = c.in_ok-past.past in
+    let held = c.in_ok-held.held in
+    let ids = c.args.ids.now in
+    let old = string_bytes c.args.told.now in
+    let new = string_bytes c.tell_each.new.told in
+    let P : Text → Policies → PartialResponse → Type 0 = λ n ps r. Adds (TellsPolicies n ps r ids) old new in
+    let policies = policies_in held.policies.now in
+    let response = held.standings.response.now in
+    on_ok_weaker c.tell_each.result
+    (λ adds. subst (λ r. P c.args.source.name.now _ r) c.in_ok-held.ensures.response
+    (subst (λ ps. P c.args.source.name.now ps response) c.in_ok-held.ensures.policies
+    (subst (λ n. P n policies response) c.in_ok-past.ensures.name (told_of_text past policies response ids old new adds c.in_ok-past.ensures.alone)))) c.tell_each.ensures

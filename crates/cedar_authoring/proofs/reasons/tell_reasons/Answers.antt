@@ -1,7 +1,7 @@
 -- Of one policy more it is told why it errs, and last that there is no context (Below).
 use Rattle.std.proofs.Common.{string_bytes}
-use Rattle.cedar_authoring.specs.Telling.{AreBelow}
-use Rattle.cedar_authoring.proofs.Below.{below_more, both_added}
+use Rattle.cedar_messages.specs.Telling.{AreBelow}
+use Rattle.cedar_messages.proofs.Below.{below_more, both_added}
 use Rattle.cedar_authoring.proofs.reasons.tell_reasons.Goals as goal
 
 pub loop-id-preserved : goal.loop-id-preserved

@@ -1,5 +1,5 @@
 use Rattle.std.proofs.Common.{string_bytes}
-use Rattle.cedar_authoring.specs.Telling.{Adds, AreBelow}
+use Rattle.cedar_messages.specs.Telling.{Adds, AreBelow}
 use Rattle.cedar_authoring.proofs.reasons.tell_reasons.Given as goal
 
 abbrev pub invariant-loop-id : goal.invariant-loop-id

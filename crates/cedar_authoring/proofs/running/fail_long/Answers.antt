@@ -1,7 +1,7 @@
 -- The line below is told (Below).
 use Rattle.std.proofs.Common.{string_bytes, sym, subst}
-use Rattle.cedar_authoring.specs.Telling.{AreBelow}
-use Rattle.cedar_authoring.proofs.Below.{from_nothing}
+use Rattle.cedar_messages.specs.Telling.{AreBelow}
+use Rattle.cedar_messages.proofs.Below.{from_nothing}
 use Rattle.cedar_authoring.proofs.running.fail_long.Goals as goal
 
 pub returns : goal.returns

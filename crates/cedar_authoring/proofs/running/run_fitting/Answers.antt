@@ -4,10 +4,10 @@ use Rattle.cedar_world.specs.Setting.{Setting}
 use Rattle.cedar_world.specs.World.{World, new_world}
 use Rattle.cedar_session.specs.Settings.{setting_with}
 use Rattle.cedar_session.specs.Sessions.{setting_of, world_of}
-use Rattle.cedar_authoring.specs.declared.scripts.script.Step.{Step}
+use Rattle.cedar_scripts.specs.declared.script.Step.{Step}
 use Rattle.cedar_authoring.specs.Scripts.{AreAnswered}
-use Rattle.cedar_authoring.specs.Telling.{AreBelow}
-use Rattle.cedar_authoring.proofs.Below.{below_more, both_added, from_nothing}
+use Rattle.cedar_messages.specs.Telling.{AreBelow}
+use Rattle.cedar_messages.proofs.Below.{below_more, both_added, from_nothing}
 use Rattle.cedar_authoring.proofs.Ran.{AreAnswered-append}
 use Rattle.cedar_authoring.proofs.running.run_fitting.Goals as goal
 

@@ -1,8 +1,8 @@
 -- The session's answer is compared.
 use Rattle.std.proofs.Common.{string_bytes}
 use Rattle.cedar_replies.specs.Replies.{reply_of}
-use Rattle.cedar_authoring.specs.Telling.{AreBelow}
-use Rattle.cedar_authoring.proofs.Below.{nothing_added, nothing_below}
+use Rattle.cedar_messages.specs.Telling.{AreBelow}
+use Rattle.cedar_messages.proofs.Below.{nothing_added, nothing_below}
 use Rattle.cedar_authoring.proofs.running.run_step.Goals as goal
 
 pub returns-then-fine-clause-answered : goal.returns-then-fine-clause-answered

@@ -3,10 +3,10 @@ use Rattle.std.proofs.Common.{◌+◌, ◌≤◌, Bool, List, length, string_byt
 use Rattle.std.proofs.lemmas.List.{take_all}
 use Rattle.cedar_world.specs.Setting.{Setting}
 use Rattle.cedar_session.specs.Sessions.{setting_of, world_of}
-use Rattle.cedar_authoring.specs.declared.scripts.script.Step.{Step}
+use Rattle.cedar_scripts.specs.declared.script.Step.{Step}
 use Rattle.cedar_authoring.specs.Scripts.{AreAnswered, IsAnswered}
-use Rattle.cedar_authoring.specs.Telling.{AreBelow}
-use Rattle.cedar_authoring.proofs.Below.{below_more, both_added, nothing_added, nothing_below}
+use Rattle.cedar_messages.specs.Telling.{AreBelow}
+use Rattle.cedar_messages.proofs.Below.{below_more, both_added, nothing_added, nothing_below}
 use Rattle.cedar_authoring.proofs.Ran.{nothing_answered, AreAnswered-more}
 use Rattle.cedar_authoring.proofs.running.run_steps.Goals as goal
 

@@ -1,7 +1,7 @@
 use Rattle.std.proofs.Common.{◌≡◌, string_bytes, take}
 use Rattle.cedar_session.specs.Sessions.{setting_of, world_of}
 use Rattle.cedar_authoring.specs.Scripts.{AreAnswered}
-use Rattle.cedar_authoring.specs.Telling.{Adds, AreBelow}
+use Rattle.cedar_messages.specs.Telling.{Adds, AreBelow}
 use Rattle.cedar_authoring.proofs.running.run_steps.Given as goal
 
 abbrev pub invariant-loop-step : goal.invariant-loop-step

@@ -6,8 +6,8 @@ use Rattle.std.specs.Int.{from_bool}
 use Rattle.cedar_language.specs.Uid.{Text}
 use Rattle.cedar_world.specs.Setting.{Setting}
 use Rattle.cedar_session.specs.Settings.{setting_with}
-use Rattle.cedar_authoring.specs.declared.scripts.script.Step.{Step}
-use Rattle.cedar_authoring.specs.declared.scripts.script.Test.{Test}
+use Rattle.cedar_scripts.specs.declared.script.Step.{Step}
+use Rattle.cedar_scripts.specs.declared.script.Test.{Test}
 use Rattle.cedar_authoring.specs.Scripts.{Went, passed_of, failed_of}
 use Rattle.cedar_authoring.proofs.Ran.{Counted, Counted-more, Counted-told, passed_one, failed_one, one_each}
 use Rattle.cedar_authoring.proofs.running.run_tests.Goals as goal

@@ -1,7 +1,7 @@
 -- What is told of the command, and then why policies err (Below).
 use Rattle.std.proofs.Common.{string_bytes}
-use Rattle.cedar_authoring.specs.Telling.{AreBelow}
-use Rattle.cedar_authoring.proofs.Below.{below_more, both_added}
+use Rattle.cedar_messages.specs.Telling.{AreBelow}
+use Rattle.cedar_messages.proofs.Below.{below_more, both_added}
 use Rattle.cedar_authoring.proofs.running.tell_unexpected.Goals as goal
 
 pub returns-in_ok-tell_reasons : goal.returns-in_ok-tell_reasons

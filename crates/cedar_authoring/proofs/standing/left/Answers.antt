@@ -1,7 +1,7 @@
 -- Two lines are added (Below).
 use Rattle.std.proofs.Common.{string_bytes}
-use Rattle.cedar_authoring.specs.Telling.{AreBelow}
-use Rattle.cedar_authoring.proofs.Below.{below_more, both_added, from_nothing}
+use Rattle.cedar_messages.specs.Telling.{AreBelow}
+use Rattle.cedar_messages.proofs.Below.{below_more, both_added, from_nothing}
 use Rattle.cedar_authoring.proofs.standing.left.Goals as goal
 
 pub returns : goal.returns

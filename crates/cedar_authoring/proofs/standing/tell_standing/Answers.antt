@@ -2,8 +2,8 @@
 use Rattle.std.proofs.Common.{◌≡◌, ◌++◌, ◌∷◌, [], ap, sym, subst, ◌∙◌, append_assoc, string_bytes}
 use Rattle.cedar_policies.specs.Policies.{policy_id}
 use Rattle.cedar_authoring.specs.Standing.{standing_words, TellsStanding}
-use Rattle.cedar_authoring.specs.Telling.{line_of, AreBelow, IsLine}
-use Rattle.cedar_authoring.proofs.Told.{told_on_ok}
+use Rattle.cedar_messages.specs.Telling.{line_of, AreBelow, IsLine}
+use Rattle.cedar_messages.proofs.Told.{told_on_ok}
 use Rattle.cedar_authoring.proofs.standing.tell_standing.Goals as goal
 
 pub returns : goal.returns

@@ -1,7 +1,7 @@
 -- One line is added (Below).
 use Rattle.std.proofs.Common.{string_bytes}
-use Rattle.cedar_authoring.specs.Telling.{AreBelow}
-use Rattle.cedar_authoring.proofs.Below.{from_nothing}
+use Rattle.cedar_messages.specs.Telling.{AreBelow}
+use Rattle.cedar_messages.proofs.Below.{from_nothing}
 use Rattle.cedar_authoring.proofs.standing.why.Goals as goal
 
 pub returns : goal.returns

@@ -1,7 +1,7 @@
 -- One line more (Below).
 use Rattle.std.proofs.Common.{string_bytes}
-use Rattle.cedar_authoring.specs.Telling.{AreBelow}
-use Rattle.cedar_authoring.proofs.Below.{below_more, both_added, nothing_added, nothing_below}
+use Rattle.cedar_messages.specs.Telling.{AreBelow}
+use Rattle.cedar_messages.proofs.Below.{below_more, both_added, nothing_added, nothing_below}
 use Rattle.cedar_authoring.proofs.wrong.push_faults.Goals as goal
 
 pub loop-line-init : goal.loop-line-init

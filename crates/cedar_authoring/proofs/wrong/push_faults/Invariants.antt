@@ -1,5 +1,5 @@
 use Rattle.std.proofs.Common.{string_bytes}
-use Rattle.cedar_authoring.specs.Telling.{Adds, AreBelow}
+use Rattle.cedar_messages.specs.Telling.{Adds, AreBelow}
 use Rattle.cedar_authoring.proofs.wrong.push_faults.Given as goal
 
 abbrev pub invariant-loop-line : goal.invariant-loop-line

@@ -1,8 +1,8 @@
 -- Two lines (Below).
 use Rattle.std.proofs.Common.{string_bytes}
 use Rattle.std.proofs.lemmas.Result.{on_ok_weaker}
-use Rattle.cedar_authoring.specs.Telling.{AreBelow}
-use Rattle.cedar_authoring.proofs.Below.{below_more, both_added}
+use Rattle.cedar_messages.specs.Telling.{AreBelow}
+use Rattle.cedar_messages.proofs.Below.{below_more, both_added}
 use Rattle.cedar_authoring.proofs.wrong.tell_answer.Goals as goal
 
 pub returns : goal.returns

@@ -1,6 +1,6 @@
 -- Its line begins with a space (Below).
 use Rattle.std.proofs.Common.{string_bytes}
-use Rattle.cedar_authoring.proofs.Below.{headed}
+use Rattle.cedar_messages.proofs.Below.{headed}
 use Rattle.cedar_authoring.proofs.wrong.tell_command.Goals as goal
 
 pub returns : goal.returns

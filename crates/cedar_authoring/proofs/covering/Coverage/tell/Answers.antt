@@ -2,9 +2,9 @@
 use Rattle.std.proofs.Common.{◌≡◌, ℕ, ◌<◌, ◌≤◌, [], List, length, get_or, string_bytes, ap, subst, arith}
 use Rattle.std.proofs.lemmas.List.{take_all}
 use Rattle.cedar_authoring.specs.Covering.{TellsCovered}
-use Rattle.cedar_authoring.specs.Telling.{TellsEach}
+use Rattle.cedar_messages.specs.Telling.{TellsEach}
 use Rattle.cedar_authoring.specs.declared.covering.Seen.{Seen}
-use Rattle.cedar_authoring.proofs.Told.{TellsEach-more}
+use Rattle.cedar_messages.proofs.Told.{TellsEach-more}
 use Rattle.cedar_authoring.proofs.covering.Coverage.tell.Goals as goal
 
 pub loop-seen-preserved : goal.loop-seen-preserved

@@ -1,7 +1,0 @@
--- Texts are equal exactly where their order ties them.
-use Rattle.std.proofs.Common.{◌∙◌}
-use Rattle.std.specs.Cmp.Lexicographic.{texts_ties}
-use Rattle.cedar_authoring.proofs.awaiting.is_same.Goals as goal
-
-pub returns : goal.returns
-returns c = c.eq.ensures ∙ texts_ties c.args.text.now c.args.other.now

@@ -1,6 +1,0 @@
-use Rattle.std.proofs.Common.{◌≡◌, map, drop}
-use Rattle.cedar_authoring.specs.Awaiting.{stands}
-use Rattle.cedar_authoring.proofs.awaiting.stands.Given as goal
-
-abbrev pub invariant-loop-other : goal.invariant-loop-other
-invariant-loop-other l = stands (map (λ n. n.now) l.standing) l.name ≡ stands (map (λ n. n.now) (drop l.other-index l.standing)) l.name

@@ -1,8 +1,0 @@
-use Rattle.std.proofs.Common.{take, string_bytes}
-use Rattle.cedar_session.specs.Sessions.{world_of}
-use Rattle.cedar_authoring.specs.Explaining.{TellsOne}
-use Rattle.cedar_authoring.specs.Telling.{Adds, TellsEach}
-use Rattle.cedar_authoring.proofs.explaining.tell_policies.Given as goal
-
-abbrev pub invariant-loop-id : goal.invariant-loop-id
-invariant-loop-id g l = Adds (TellsEach (TellsOne l.source.name.now (world_of l.session).policies l.response) (take l.id-index l.ids)) (string_bytes l.fn.told) (string_bytes l.told)

@@ -1,5 +1,0 @@
-use Rattle.cedar_authoring.proofs.SingleFault.{faults_are_in_no_script}
-use Rattle.cedar_authoring.proofs.scripts.laws.faults_are_in_no_script.Goals as goal
-
-pub returns : goal.returns
-returns _ = faults_are_in_no_script

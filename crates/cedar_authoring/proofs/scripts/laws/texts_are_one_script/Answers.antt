@@ -1,5 +1,0 @@
-use Rattle.cedar_authoring.proofs.SingleFault.{texts_are_one_script}
-use Rattle.cedar_authoring.proofs.scripts.laws.texts_are_one_script.Goals as goal
-
-pub returns : goal.returns
-returns _ = texts_are_one_script

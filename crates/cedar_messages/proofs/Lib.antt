@@ -1,0 +1,4 @@
+pub mod Below
+mod Causes
+pub mod Told
+mod Visible

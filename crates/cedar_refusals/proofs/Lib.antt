@@ -1,0 +1,3 @@
+mod Checked
+mod NamesOnce
+mod PartsTold

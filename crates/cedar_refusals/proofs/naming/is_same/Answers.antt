@@ -1,0 +1,7 @@
+-- Texts are equal exactly where their order ties them.
+use Rattle.std.proofs.Common.{◌∙◌}
+use Rattle.std.specs.Cmp.Lexicographic.{texts_ties}
+use Rattle.cedar_refusals.proofs.naming.is_same.Goals as goal
+
+pub returns : goal.returns
+returns c = c.eq.ensures ∙ texts_ties c.args.text.now c.args.other.now

@@ -1,0 +1,5 @@
+pub mod Checkers
+pub mod Checks
+pub mod Naming
+pub mod RefusedBodies
+pub mod Titles

@@ -1,0 +1,5 @@
+pub mod ScriptFaults
+pub mod ScriptLaws
+pub mod ScriptLines
+pub mod ScriptTexts
+pub mod Spoken
