@@ -6,3 +6,5 @@ pub mod Questions
 pub mod QuestionsWritten
 pub mod Laws
 pub mod Rows
+pub mod Appended
+pub mod Parts

@@ -1,6 +1,9 @@
 //! What JSON says as values, entities and questions of Cedar, and the Cedar text of each.
 #![tactic(auto)]
 
+mod scalars;
+mod writing;
+
 ghost use Rattle.cedar_json.specs.Laws.{WrittenValuesAreRead, WrittenEntitiesAreRead, WrittenQuestionsAreRead, ValuesHaveUniqueKeys};
 ghost use Rattle.cedar_json.specs.Rows.{Rows};
 
