@@ -4,7 +4,7 @@ use Rattle.std.specs.Prelude.{OnOk, is_ok, encode_utf8_all, encode_utf8, IsUtf8}
 use Rattle.std.specs.Str.{chars}
 use Rattle.std.proofs.lemmas.Str.{encodes-append, encodes-chars, encode_ascii}
 use Rattle.cedar_grammar.specs.Tokens.{colon}
-use Rattle.cedar_json.specs.Parts.{key_written}
+use Rattle.cedar_json.specs.Parts.{key_written, part_written}
 use Rattle.cedar_json.specs.Written.{escaped_char, escaped, quoted, entry_written}
 
 -- ---- one step
@@ -77,3 +77,56 @@ pub entry_step : (out d e f key one later whole : List ℕ) → d ≡ out ++ enc
     → out ++ encode_utf8_all (entry_written key one later) ≡ whole → f ++ encode_utf8_all later ≡ whole
 entry_step out d e f key one later whole g h i k =
     item_step out e f (key_written key ++ one) later whole 44 (grown out d e (key_written key) one g h) i (ap (λ cs. out ++ encode_utf8_all cs) (entry_is key one later) ∙ k)
+
+-- ---- objects of four parts
+
+module _ {A E : Type 0} where
+  -- a key, its value and a comma
+  pub on_part : (r : Result A E) (a b d e key value : List ℕ) → b ≡ a ++ encode_utf8_all (key_written key) → d ≡ b ++ encode_utf8_all value → e ≡ cond (is_ok r) (d ++ encode_utf8 44) d
+      → OnOk r (e ≡ a ++ encode_utf8_all (part_written key value))
+  on_part r a b d e key value f g h =
+      on_same r a e ((key_written key ++ value) ++ 44 ∷ []) (part_written key value) (append_assoc (key_written key) value (44 ∷ []))
+      (on_grown r a d e (key_written key ++ value) (44 ∷ []) (grown a b d (key_written key) value f g) (on_pushed r d e 44 h))
+
+part_is : (key value rest : List ℕ) → part_written key value ++ rest ≡ entry_written key value rest
+part_is key value rest =
+    append_assoc (key_written key) (value ++ 44 ∷ []) rest ∙ ap (λ s. key_written key ++ s) (append_assoc value (44 ∷ []) rest)
+    ∙ append_assoc (quoted key) (colon ∷ 32 ∷ []) (value ++ 44 ∷ rest)
+
+-- the texts before and behind each of four parts between braces
+pub record Parts (a0 a1 a2 a3 a4 a5 p1 p2 p3 p4 : List ℕ) : Type 0 where
+  pub opened : a1 ≡ a0 ++ encode_utf8 123
+  pub first : a2 ≡ a1 ++ encode_utf8_all p1
+  pub second : a3 ≡ a2 ++ encode_utf8_all p2
+  pub third : a4 ≡ a3 ++ encode_utf8_all p3
+  pub fourth : a5 ≡ a4 ++ encode_utf8_all p4
+
+four_parts : (k1 v1 k2 v2 k3 v3 k4 v4 : List ℕ)
+    → ((((123 ∷ part_written k1 v1) ++ part_written k2 v2) ++ part_written k3 v3) ++ part_written k4 v4) ++ 125 ∷ [] ≡ 123 ∷ entry_written k1 v1 (entry_written k2 v2 (entry_written k3 v3 (entry_written k4 v4 (125 ∷ []))))
+four_parts k1 v1 k2 v2 k3 v3 k4 v4 =
+    let p1 = part_written k1 v1 in
+    let p2 = part_written k2 v2 in
+    let p3 = part_written k3 v3 in
+    let p4 = part_written k4 v4 in
+    let e4 = entry_written k4 v4 (125 ∷ []) in
+    let e3 = entry_written k3 v3 e4 in
+    append_assoc (((123 ∷ p1) ++ p2) ++ p3) p4 (125 ∷ []) ∙ ap (λ s. (((123 ∷ p1) ++ p2) ++ p3) ++ s) (part_is k4 v4 (125 ∷ []))
+    ∙ append_assoc ((123 ∷ p1) ++ p2) p3 e4 ∙ ap (λ s. ((123 ∷ p1) ++ p2) ++ s) (part_is k3 v3 e4)
+    ∙ append_assoc (123 ∷ p1) p2 e3 ∙ ap (λ s. 123 ∷ (p1 ++ s)) (part_is k2 v2 e3)
+    ∙ ap (λ s. 123 ∷ s) (part_is k1 v1 (entry_written k2 v2 e3))
+
+module _ {A E : Type 0} where
+  pub on_parts : (r : Result A E) (a0 a1 a2 a3 a4 a5 a6 k1 v1 k2 v2 k3 v3 k4 v4 : List ℕ) → Parts a0 a1 a2 a3 a4 a5 (part_written k1 v1) (part_written k2 v2) (part_written k3 v3) (part_written k4 v4)
+      → a6 ≡ cond (is_ok r) (a5 ++ encode_utf8 125) a5
+      → OnOk r (a6 ≡ a0 ++ encode_utf8_all (123 ∷ entry_written k1 v1 (entry_written k2 v2 (entry_written k3 v3 (entry_written k4 v4 (125 ∷ []))))))
+  on_parts r a0 a1 a2 a3 a4 a5 a6 k1 v1 k2 v2 k3 v3 k4 v4 parts last =
+      let p1 = part_written k1 v1 in
+      let p2 = part_written k2 v2 in
+      let p3 = part_written k3 v3 in
+      let p4 = part_written k4 v4 in
+      let s2 = grown a0 a1 a2 (123 ∷ []) p1 (pushed a0 a1 123 parts.opened) parts.first in
+      let s3 = grown a0 a2 a3 (123 ∷ p1) p2 s2 parts.second in
+      let s4 = grown a0 a3 a4 ((123 ∷ p1) ++ p2) p3 s3 parts.third in
+      let s5 = grown a0 a4 a5 (((123 ∷ p1) ++ p2) ++ p3) p4 s4 parts.fourth in
+      on_same r a0 a6 (((((123 ∷ p1) ++ p2) ++ p3) ++ p4) ++ 125 ∷ []) (123 ∷ entry_written k1 v1 (entry_written k2 v2 (entry_written k3 v3 (entry_written k4 v4 (125 ∷ []))))) (four_parts k1 v1 k2 v2 k3 v3 k4 v4)
+      (on_grown r a0 a5 a6 ((((123 ∷ p1) ++ p2) ++ p3) ++ p4) (125 ∷ []) s5 (on_pushed r a5 a6 125 last))

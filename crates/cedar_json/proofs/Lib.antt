@@ -11,3 +11,4 @@ pub mod Appending
 pub mod Taken
 pub mod Numerals
 pub mod Spellings
+pub mod Sound

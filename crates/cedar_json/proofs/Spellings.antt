@@ -190,3 +190,11 @@ spoiled_none ((c ∷ cs) ∷ ws) h = by (begins_word c) refl (list_all is_in_wor
 
 pub one_colon_none : (s w t : Text) → s ≡ w ++ colon ∷ t → IsPlain w → get_or t 0 0 ≢ 58 → all_free s ≡ false
 one_colon_none s w t e plain h = ap all_free e ∙ spoiled_none (words_between (w ++ colon ∷ t)) (spoils w t plain h)
+
+pub no_first : (t : Text) → length t ≡ 0 → get_or t 0 0 ≢ 58
+no_first [] e = λ f. cc f
+no_first (c ∷ cs) e = absurd (omega arith)
+
+pub opens : (t : Text) → 0 < length t → get_or t 0 0 ≡ 58 → t ≡ 58 ∷ drop 1 t
+opens [] some e = absurd (omega arith)
+opens (c ∷ cs) some e = ap (λ d. d ∷ cs) e

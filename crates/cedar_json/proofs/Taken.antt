@@ -1,5 +1,5 @@
 -- Values of JSON, as the code takes them apart.
-use Rattle.std.proofs.Common.{◌≡◌, ◌≢◌, ℕ, Bool, true, false, cond, List, [], ◌∷◌, ◌++◌, length, get_or, Option, None, Some, refl, sym, ap, ◌∙◌, arith}
+use Rattle.std.proofs.Common.{◌≡◌, ◌≢◌, ℕ, Bool, true, false, cond, List, [], ◌∷◌, ◌++◌, length, get_or, Option, None, Some, refl, sym, ap, ◌∙◌, true≢false, arith}
 use Rattle.std.specs.Prelude.{codes}
 use Rattle.std.specs.Borrow.{Bor}
 use Rattle.json.specs.Find.{as_str}
@@ -8,6 +8,9 @@ use Rattle.json.specs.Value.{value_view, items_view, members_view}
 use Rattle.json.specs.declared.value.Value.{Value}
 use Rattle.cedar_language.specs.Uid.{Text}
 use Rattle.cedar_grammar.specs.Names.{is_text}
+use Rattle.std.proofs.lemmas.Slice.Eq.{bytes_eq-Decides}
+use Rattle.cedar_json.specs.Entities.{entity_in}
+use Rattle.cedar_json.specs.EntitiesWritten.{entity_written}
 use Rattle.cedar_json.specs.Parts.{IsNoPair, arguments_in}
 use Rattle.cedar_json.specs.Values.{uid_in}
 use Rattle.cedar_json.specs.Written.{uid_written, name_written, written, call_written, members_written}
@@ -128,3 +131,32 @@ module _ {A : Type 0} where
 
   pub call_is : (ms : List (Entry A)) (m n : Entry A) (b : Bool) → ms ≡ m ∷ n ∷ [] → is_text m.0.now (codes "fn") ≡ b → call_written (object (members_view ms)) ≡ call_by b m n
   call_is ms m n b e f = rw (e, f) refl
+
+pub same_flipped : (k l : Text) → is_text k l ≡ true → is_text l k ≡ true
+same_flipped k l e = (bytes_eq-Decides l k).1 (sym ((bytes_eq-Decides k l).0 e))
+
+pub other_flipped : (k l : Text) → is_text k l ≡ false → is_text l k ≡ false
+other_flipped k l e = by (is_text l k) refl
+  where
+    by : (b : Bool) → is_text l k ≡ b → b ≡ false
+    by true f = absurd (true≢false (sym (same_flipped l k f) ∙ e))
+    by false f = refl
+
+-- ---- entities
+
+module _ {A : Type 0} where
+  pub many_entity : (ms : List (Entry A)) → (length ms ≡ 1 → ⊥) → entity_in (object (members_view ms)) ≡ uid_in (object (members_view ms))
+  many_entity [] other = refl
+  many_entity (m ∷ []) other = absurd (other refl)
+  many_entity (m ∷ n ∷ ms) other = refl
+
+  pub one_entity : (ms : List (Entry A)) (m : Entry A) (b : Bool) → ms ≡ m ∷ [] → is_text m.0.now (codes "__entity") ≡ b → entity_in (object (members_view ms)) ≡ cond b (uid_in (value_view m.1)) None
+  one_entity ms m b e f = rw (e, f) refl
+
+  pub many_entity_written : (ms : List (Entry A)) → (length ms ≡ 1 → ⊥) → entity_written (object (members_view ms)) ≡ uid_written (object (members_view ms))
+  many_entity_written [] other = refl
+  many_entity_written (m ∷ []) other = absurd (other refl)
+  many_entity_written (m ∷ n ∷ ms) other = refl
+
+  pub one_entity_written : (ms : List (Entry A)) (m : Entry A) → ms ≡ m ∷ [] → entity_written (object (members_view ms)) ≡ uid_written (value_view m.1)
+  one_entity_written ms m e = rw e refl

@@ -22,3 +22,7 @@ IsNoPair j = (uid_in j ≡ None) × (uid_written j ≡ [])
 -- the arguments of a call, by the key under which they stand
 abbrev pub arguments_in : Text → Json → List ℕ
 arguments_in key j = arguments_written key (written j) (list_written j)
+
+-- a key, its value and a comma
+abbrev pub part_written : Text → List ℕ → List ℕ
+part_written key value = key_written key ++ (value ++ 44 ∷ [])

@@ -1,7 +1,10 @@
 //! What JSON says as values, entities and questions of Cedar, and the Cedar text of each.
 #![tactic(auto)]
 
+mod entities;
+mod entities_written;
 mod scalars;
+mod values;
 mod writing;
 
 ghost use Rattle.cedar_json.specs.Laws.{WrittenValuesAreRead, WrittenEntitiesAreRead, WrittenQuestionsAreRead, ValuesHaveUniqueKeys};

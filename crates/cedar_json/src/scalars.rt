@@ -16,7 +16,10 @@ pub fn is_long(text: &str) -> bool
     if first == b'+' {
         return false;
     }
-    text.parse::<i64>().is_ok()
+    match text.parse::<i64>() {
+        Ok(_) => true,
+        Err(_) => false,
+    }
 }
 
 /// Whether a text spells a name: identifiers that aren't reserved, with `::` between them and no white

@@ -1,9 +1,10 @@
 // Values of JSON as Cedar texts.
-ghost use Rattle.std.specs.Prelude.{◌≡◌, MatchOption};
+ghost use Rattle.std.specs.Prelude.{◌≡◌, MatchOption, option_map};
 ghost use Rattle.std.specs.Str.{chars};
 ghost use Rattle.json.specs.Json.{object};
 ghost use Rattle.json.specs.Value.{value_view, items_view, members_view};
 ghost use Rattle.cedar_json.specs.Appended.{Appends};
+ghost use Rattle.cedar_json.specs.Entities.{under};
 ghost use Rattle.cedar_json.specs.Parts.{key_written, IsNoPair, pair_of, arguments_in};
 ghost use Rattle.cedar_json.specs.Written.{escaped_char, quoted, written, items_written, members_written, uid_text, uid_written, name_written, call_written};
 
@@ -53,6 +54,19 @@ pub fn write_key(out: &mut String, key: &str) -> Result<(), AllocError>
 {
     write_quoted(out, key)?;
     out.push_str(": ")
+}
+
+/// What stands under a key first.
+pub fn find<'v, 'a>(members: &'v Members<'a>, key: &str) -> Option<&'v Value<'a>>
+    ensures { option_map (λ value. value_view value.now) result
+        ≡ under key.now (members_view members.now.items) }
+{
+    for member in members {
+        if member.0 == key {
+            return Some(&member.1);
+        }
+    }
+    None
 }
 
 /// Two strings under their keys.
