@@ -21,7 +21,8 @@ two_pushed a b c d k l e =
     e ∙ ap (λ s. a ++ s) (sym (ap (λ s. s ++ encode_utf8_all (d ∷ [])) (encode_ascii c k) ∙ ap (λ s. c ∷ (s ++ [])) (encode_ascii d l)))
 
 module _ {A E : Type 0} where
-  pub on_grown : (r : Result A E) (a b c xs ys : List ℕ) → b ≡ a ++ encode_utf8_all xs → OnOk r (c ≡ b ++ encode_utf8_all ys) → OnOk r (c ≡ a ++ encode_utf8_all (xs ++ ys))
+  pub on_grown : (r : Result A E) (a b c xs ys : List ℕ) → b ≡ a ++ encode_utf8_all xs → OnOk r (c ≡ b ++ encode_utf8_all ys)
+      → OnOk r (c ≡ a ++ encode_utf8_all (xs ++ ys))
   on_grown (Ok x) a b c xs ys e f = grown a b c xs ys e f
   on_grown (Err x) a b c xs ys e f = tt
 
@@ -38,18 +39,21 @@ module _ {A E : Type 0} where
   on_same (Err x) a b xs ys e f = tt
 
   -- the last character of what a loop wrote
-  pub on_closed : (r : Result A E) (out b whole : List ℕ) (c : ℕ) (rest : List ℕ) → rest ≡ c ∷ [] → out ++ encode_utf8_all rest ≡ whole → b ≡ cond (is_ok r) (out ++ encode_utf8 c) out → OnOk r (b ≡ whole)
+  pub on_closed : (r : Result A E) (out b whole : List ℕ) (c : ℕ) (rest : List ℕ) → rest ≡ c ∷ [] → out ++ encode_utf8_all rest ≡ whole
+      → b ≡ cond (is_ok r) (out ++ encode_utf8 c) out → OnOk r (b ≡ whole)
   on_closed (Ok x) out b whole c rest e f g = pushed out b c g ∙ ap (λ cs. out ++ encode_utf8_all cs) (sym e) ∙ f
   on_closed (Err x) out b whole c rest e f g = tt
 
-  pub on_two : (r : Result A E) (a b : List ℕ) (c d : ℕ) → c < 128 → d < 128 → b ≡ cond (is_ok r) (a ++ c ∷ d ∷ []) a → OnOk r (b ≡ a ++ encode_utf8_all (c ∷ d ∷ []))
+  pub on_two : (r : Result A E) (a b : List ℕ) (c d : ℕ) → c < 128 → d < 128 → b ≡ cond (is_ok r) (a ++ c ∷ d ∷ []) a
+      → OnOk r (b ≡ a ++ encode_utf8_all (c ∷ d ∷ []))
   on_two (Ok x) a b c d k l e = two_pushed a b c d k l e
   on_two (Err x) a b c d k l e = tt
 
 -- ---- a loop's step
 
 -- an item is written, and a comma
-pub item_step : (out d e one later whole : List ℕ) (c : ℕ) → d ≡ out ++ encode_utf8_all one → e ≡ d ++ encode_utf8 c → out ++ encode_utf8_all (one ++ c ∷ later) ≡ whole → e ++ encode_utf8_all later ≡ whole
+pub item_step : (out d e one later whole : List ℕ) (c : ℕ) → d ≡ out ++ encode_utf8_all one → e ≡ d ++ encode_utf8 c
+    → out ++ encode_utf8_all (one ++ c ∷ later) ≡ whole → e ++ encode_utf8_all later ≡ whole
 item_step out d e one later whole c f g h =
     ap (λ s. s ++ encode_utf8_all later) (g ∙ ap (λ s. s ++ encode_utf8 c) f)
     ∙ append_assoc (out ++ encode_utf8_all one) (encode_utf8 c) (encode_utf8_all later)
@@ -73,16 +77,19 @@ pub entry_is : (key one later : List ℕ) → (key_written key ++ one) ++ 44 ∷
 entry_is key one later = append_assoc (key_written key) one (44 ∷ later) ∙ append_assoc (quoted key) (colon ∷ 32 ∷ []) (one ++ 44 ∷ later)
 
 -- an entry is written: its key, its value and a comma
-pub entry_step : (out d e f key one later whole : List ℕ) → d ≡ out ++ encode_utf8_all (key_written key) → e ≡ d ++ encode_utf8_all one → f ≡ e ++ encode_utf8 44
+pub entry_step : (out d e f key one later whole : List ℕ) → d ≡ out ++ encode_utf8_all (key_written key) → e ≡ d ++ encode_utf8_all one
+    → f ≡ e ++ encode_utf8 44
     → out ++ encode_utf8_all (entry_written key one later) ≡ whole → f ++ encode_utf8_all later ≡ whole
 entry_step out d e f key one later whole g h i k =
-    item_step out e f (key_written key ++ one) later whole 44 (grown out d e (key_written key) one g h) i (ap (λ cs. out ++ encode_utf8_all cs) (entry_is key one later) ∙ k)
+    item_step out e f (key_written key ++ one) later whole 44 (grown out d e (key_written key) one g h) i
+    (ap (λ cs. out ++ encode_utf8_all cs) (entry_is key one later) ∙ k)
 
 -- ---- objects of four parts
 
 module _ {A E : Type 0} where
   -- a key, its value and a comma
-  pub on_part : (r : Result A E) (a b d e key value : List ℕ) → b ≡ a ++ encode_utf8_all (key_written key) → d ≡ b ++ encode_utf8_all value → e ≡ cond (is_ok r) (d ++ encode_utf8 44) d
+  pub on_part : (r : Result A E) (a b d e key value : List ℕ) → b ≡ a ++ encode_utf8_all (key_written key) → d ≡ b ++ encode_utf8_all value
+      → e ≡ cond (is_ok r) (d ++ encode_utf8 44) d
       → OnOk r (e ≡ a ++ encode_utf8_all (part_written key value))
   on_part r a b d e key value f g h =
       on_same r a e ((key_written key ++ value) ++ 44 ∷ []) (part_written key value) (append_assoc (key_written key) value (44 ∷ []))
@@ -102,7 +109,8 @@ pub record Parts (a0 a1 a2 a3 a4 a5 p1 p2 p3 p4 : List ℕ) : Type 0 where
   pub fourth : a5 ≡ a4 ++ encode_utf8_all p4
 
 four_parts : (k1 v1 k2 v2 k3 v3 k4 v4 : List ℕ)
-    → ((((123 ∷ part_written k1 v1) ++ part_written k2 v2) ++ part_written k3 v3) ++ part_written k4 v4) ++ 125 ∷ [] ≡ 123 ∷ entry_written k1 v1 (entry_written k2 v2 (entry_written k3 v3 (entry_written k4 v4 (125 ∷ []))))
+    → ((((123 ∷ part_written k1 v1) ++ part_written k2 v2) ++ part_written k3 v3) ++ part_written k4 v4) ++ 125 ∷ [] ≡ 123 ∷ entry_written k1 v1
+    (entry_written k2 v2 (entry_written k3 v3 (entry_written k4 v4 (125 ∷ []))))
 four_parts k1 v1 k2 v2 k3 v3 k4 v4 =
     let p1 = part_written k1 v1 in
     let p2 = part_written k2 v2 in
@@ -116,7 +124,8 @@ four_parts k1 v1 k2 v2 k3 v3 k4 v4 =
     ∙ ap (λ s. 123 ∷ s) (part_is k1 v1 (entry_written k2 v2 e3))
 
 module _ {A E : Type 0} where
-  pub on_parts : (r : Result A E) (a0 a1 a2 a3 a4 a5 a6 k1 v1 k2 v2 k3 v3 k4 v4 : List ℕ) → Parts a0 a1 a2 a3 a4 a5 (part_written k1 v1) (part_written k2 v2) (part_written k3 v3) (part_written k4 v4)
+  pub on_parts : (r : Result A E) (a0 a1 a2 a3 a4 a5 a6 k1 v1 k2 v2 k3 v3 k4 v4 : List ℕ)
+      → Parts a0 a1 a2 a3 a4 a5 (part_written k1 v1) (part_written k2 v2) (part_written k3 v3) (part_written k4 v4)
       → a6 ≡ cond (is_ok r) (a5 ++ encode_utf8 125) a5
       → OnOk r (a6 ≡ a0 ++ encode_utf8_all (123 ∷ entry_written k1 v1 (entry_written k2 v2 (entry_written k3 v3 (entry_written k4 v4 (125 ∷ []))))))
   on_parts r a0 a1 a2 a3 a4 a5 a6 k1 v1 k2 v2 k3 v3 k4 v4 parts last =
@@ -128,5 +137,6 @@ module _ {A E : Type 0} where
       let s3 = grown a0 a2 a3 (123 ∷ p1) p2 s2 parts.second in
       let s4 = grown a0 a3 a4 ((123 ∷ p1) ++ p2) p3 s3 parts.third in
       let s5 = grown a0 a4 a5 (((123 ∷ p1) ++ p2) ++ p3) p4 s4 parts.fourth in
-      on_same r a0 a6 (((((123 ∷ p1) ++ p2) ++ p3) ++ p4) ++ 125 ∷ []) (123 ∷ entry_written k1 v1 (entry_written k2 v2 (entry_written k3 v3 (entry_written k4 v4 (125 ∷ []))))) (four_parts k1 v1 k2 v2 k3 v3 k4 v4)
+      on_same r a0 a6 (((((123 ∷ p1) ++ p2) ++ p3) ++ p4) ++ 125 ∷ [])
+      (123 ∷ entry_written k1 v1 (entry_written k2 v2 (entry_written k3 v3 (entry_written k4 v4 (125 ∷ []))))) (four_parts k1 v1 k2 v2 k3 v3 k4 v4)
       (on_grown r a0 a5 a6 ((((123 ∷ p1) ++ p2) ++ p3) ++ p4) (125 ∷ []) s5 (on_pushed r a5 a6 125 last))

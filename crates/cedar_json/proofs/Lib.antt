@@ -12,3 +12,5 @@ pub mod Taken
 pub mod Numerals
 pub mod Spellings
 pub mod Sound
+pub mod Unique
+pub mod Saying

@@ -43,7 +43,8 @@ some_if false a = refl
 
 module _ {E : Type 0} where
   -- the number is read where its digits are of one that is low enough
-  reads_low : (most : ℕ) (ds : List ℕ) (x : ℤ) (r : Result ℤ E) (P : Type 0) → (P → IsLow most ds) → (IsLow most ds → P) → OkIff r P x → is_ok r ≡ is_at_most most ds
+  reads_low : (most : ℕ) (ds : List ℕ) (x : ℤ) (r : Result ℤ E) (P : Type 0) → (P → IsLow most ds) → (IsLow most ds → P) → OkIff r P x
+      → is_ok r ≡ is_at_most most ds
   reads_low most ds x (Ok y) P to from h = let low = to h.0 in sym (at_most most ds low.digits low.some low.low)
   reads_low most ds x (Err e) P to from h = by (is_at_most most ds) refl
     where
@@ -58,10 +59,11 @@ module _ {E : Type 0} where
       by : (b : Bool) → (c == minus) ≡ b → is_ok r ≡ is_some (cond b (negative cs) (positive (c ∷ cs)))
       by true e =
           let is : c ≡ 45 = eqb-true c minus e in
-          reads_low 9223372036854775808 cs _ r _ (λ p. record { digits = p.0; some = p.1; low = p.2 }) (λ l. (l.digits, l.some, l.low)) (parse_signed_minus own w64 (c ∷ cs) r h is)
+          reads_low 9223372036854775808 cs _ r _ (λ p. record { digits = p.0; some = p.1; low = p.2 }) (λ l. (l.digits, l.some, l.low))
+          (parse_signed_minus own w64 (c ∷ cs) r h is)
           ∙ sym (some_if (is_at_most 9223372036854775808 cs) _)
       by false e =
           let other : get_or (c ∷ cs) 0 0 ≢ 45 = λ is. absurd (cc e) in
           reads_low 9223372036854775807 (c ∷ cs) _ r _ (λ p. record { digits = p.0; some = p.1; low = let l = p.2 in omega arith })
-              (λ l. (l.digits, l.some, let m = l.low in omega arith)) (parse_signed_plain own w64 (c ∷ cs) r h plain other)
+          (λ l. (l.digits, l.some, let m = l.low in omega arith)) (parse_signed_plain own w64 (c ∷ cs) r h plain other)
           ∙ sym (some_if (is_at_most 9223372036854775807 (c ∷ cs)) _)

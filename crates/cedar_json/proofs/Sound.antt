@@ -69,7 +69,8 @@ some_record es e = by (are_distinct (keys es)) (any_escape (keys es)) e
 pub record_said : (ms : Members) → AreDistinct (strict.keys ms) → is_some (and_then (entries ms) record_with) ≡ sound ms
 record_said ms apart = by (entries ms) refl ∙ sym (sound_is ms)
   where
-    by : (o : Option (List (Keyed Tree))) → entries ms ≡ o → is_some (and_then (entries ms) record_with) ≡ (is_some (entries ms) && not (any_escape (strict.keys ms)))
+    by : (o : Option (List (Keyed Tree))) → entries ms ≡ o
+        → is_some (and_then (entries ms) record_with) ≡ (is_some (entries ms) && not (any_escape (strict.keys ms)))
     by None e = ap (λ o. is_some (and_then o record_with)) e ∙ ap (λ o. is_some o && not (any_escape (strict.keys ms))) (sym e)
     by (Some es) e =
         let same = entry_keys ms es e in
@@ -93,7 +94,8 @@ module _ {A : Type 0} where
       → datum (object (members_view ms)) ≡ and_then (entries (members_view ms)) record_with
   one_said ms m e f g = rw (e, f, g) refl
 
-  pub entity_said : (ms : List (Entry A)) (m : Entry A) → ms ≡ m ∷ [] → is_text m.0.now (codes "__entity") ≡ true → is_some (datum (object (members_view ms))) ≡ is_some (uid_in (value_view m.1))
+  pub entity_said : (ms : List (Entry A)) (m : Entry A) → ms ≡ m ∷ [] → is_text m.0.now (codes "__entity") ≡ true
+      → is_some (datum (object (members_view ms))) ≡ is_some (uid_in (value_view m.1))
   entity_said ms m e f = rw (e, f) (some_map _ (uid_in (value_view m.1)))
 
   pub call_said : (ms : List (Entry A)) (m : Entry A) → ms ≡ m ∷ [] → is_text m.0.now (codes "__entity") ≡ false → is_text m.0.now (codes "__extn") ≡ true
@@ -120,22 +122,27 @@ module _ {A : Type 0} where
   not_two_said (m ∷ n ∷ []) other = absurd (other refl)
   not_two_said (m ∷ n ∷ o ∷ ms) other = refl
 
-  pub first_called : (ms : List (Entry A)) (m n : Entry A) → ms ≡ m ∷ n ∷ [] → is_text m.0.now (codes "fn") ≡ true → is_some (call_in (object (members_view ms))) ≡ call_of m n
+  pub first_called : (ms : List (Entry A)) (m n : Entry A) → ms ≡ m ∷ n ∷ [] → is_text m.0.now (codes "fn") ≡ true
+      → is_some (call_in (object (members_view ms))) ≡ call_of m n
   first_called ms m n e f = rw (e, f) (some_call (name_in (value_view m.1)) (arguments n.0.now (datum (value_view n.1)) (items_in (value_view n.1))))
 
-  pub second_called : (ms : List (Entry A)) (m n : Entry A) → ms ≡ m ∷ n ∷ [] → is_text m.0.now (codes "fn") ≡ false → is_text n.0.now (codes "fn") ≡ true → is_some (call_in (object (members_view ms))) ≡ call_of n m
+  pub second_called : (ms : List (Entry A)) (m n : Entry A) → ms ≡ m ∷ n ∷ [] → is_text m.0.now (codes "fn") ≡ false → is_text n.0.now (codes "fn") ≡ true
+      → is_some (call_in (object (members_view ms))) ≡ call_of n m
   second_called ms m n e f g = rw (e, f, g) (some_call (name_in (value_view n.1)) (arguments m.0.now (datum (value_view m.1)) (items_in (value_view m.1))))
 
-  pub none_called : (ms : List (Entry A)) (m n : Entry A) → ms ≡ m ∷ n ∷ [] → is_text m.0.now (codes "fn") ≡ false → is_text n.0.now (codes "fn") ≡ false → is_some (call_in (object (members_view ms))) ≡ false
+  pub none_called : (ms : List (Entry A)) (m n : Entry A) → ms ≡ m ∷ n ∷ [] → is_text m.0.now (codes "fn") ≡ false → is_text n.0.now (codes "fn") ≡ false
+      → is_some (call_in (object (members_view ms))) ≡ false
   none_called ms m n e f g = rw (e, f, g) refl
 
 pub one_argument : (key : Text) (o : Option Tree) (os : Option (List Tree)) → is_text key (codes "arg") ≡ true → is_some (arguments key o os) ≡ is_some o
 one_argument key o os e = rw e (some_map _ o)
 
-pub some_arguments : (key : Text) (o : Option Tree) (os : Option (List Tree)) → is_text key (codes "arg") ≡ false → is_text key (codes "args") ≡ true → is_some (arguments key o os) ≡ is_some os
+pub some_arguments : (key : Text) (o : Option Tree) (os : Option (List Tree)) → is_text key (codes "arg") ≡ false → is_text key (codes "args") ≡ true
+    → is_some (arguments key o os) ≡ is_some os
 some_arguments key o os e f = rw (e, f) refl
 
-pub no_arguments : (key : Text) (o : Option Tree) (os : Option (List Tree)) → is_text key (codes "arg") ≡ false → is_text key (codes "args") ≡ false → is_some (arguments key o os) ≡ false
+pub no_arguments : (key : Text) (o : Option Tree) (os : Option (List Tree)) → is_text key (codes "arg") ≡ false → is_text key (codes "args") ≡ false
+    → is_some (arguments key o os) ≡ false
 no_arguments key o os e f = rw (e, f) refl
 
 -- ---- entities
@@ -146,7 +153,8 @@ type_key = codes "type"
 abbrev id_key : Text
 id_key = codes "id"
 
-pub type_first : (k s l t : Text) → is_text k (codes "type") ≡ true → is_some (two_strings k s l t type_key id_key) ≡ (is_text l (codes "id") && is_some (name_spelled s))
+pub type_first : (k s l t : Text) → is_text k (codes "type") ≡ true
+    → is_some (two_strings k s l t type_key id_key) ≡ (is_text l (codes "id") && is_some (name_spelled s))
 type_first k s l t e =
     ap (λ x. is_some (two_strings x s l t type_key id_key)) ((bytes_eq-Decides k type_key).0 e) ∙ by (is_text l id_key)
   where
@@ -154,7 +162,8 @@ type_first k s l t e =
     by true = some_map _ (name_spelled s)
     by false = refl
 
-pub id_first : (k s l t : Text) → is_text k (codes "id") ≡ true → is_some (two_strings k s l t type_key id_key) ≡ (is_text l (codes "type") && is_some (name_spelled t))
+pub id_first : (k s l t : Text) → is_text k (codes "id") ≡ true
+    → is_some (two_strings k s l t type_key id_key) ≡ (is_text l (codes "type") && is_some (name_spelled t))
 id_first k s l t e =
     ap (λ x. is_some (two_strings x s l t type_key id_key)) ((bytes_eq-Decides k id_key).0 e) ∙ by (is_text l type_key)
   where
@@ -171,7 +180,9 @@ number_none : (s : Text) → is_some (and_then (long_in s) named_fields) ≡ fal
 number_none [] = refl
 number_none (c ∷ cs) = by (c == minus) (is_at_most 9223372036854775808 cs) (is_at_most 9223372036854775807 (c ∷ cs))
   where
-    by : (a b d : Bool) → is_some (and_then (cond a (cond b (Some (long (neg_ℤ (pos (digits_value 10 cs))))) None) (cond d (Some (long (pos (digits_value 10 (c ∷ cs))))) None)) named_fields) ≡ false
+    by : (a b d : Bool) → is_some (and_then
+        (cond a (cond b (Some (long (neg_ℤ (pos (digits_value 10 cs))))) None) (cond d (Some (long (pos (digits_value 10 (c ∷ cs))))) None)) named_fields)
+        ≡ false
     by true true d = refl
     by true false d = refl
     by false b true = refl
@@ -209,7 +220,9 @@ some_call_none None ts = refl
 call_none : (j : Json) → is_some (and_then (call_in j) named_fields) ≡ false
 call_none (object (member k a (member l b no_members))) = by (is_text k (codes "fn")) (is_text l (codes "fn"))
   where
-    by : (p q : Bool) → is_some (and_then (cond p (call_with (name_in a) (arguments l (datum b) (items_in b))) (cond q (call_with (name_in b) (arguments k (datum a) (items_in a))) None)) named_fields) ≡ false
+    by : (p q : Bool) → is_some (and_then
+        (cond p (call_with (name_in a) (arguments l (datum b) (items_in b)))
+        (cond q (call_with (name_in b) (arguments k (datum a) (items_in a))) None)) named_fields) ≡ false
     by true q = some_call_none (name_in a) (arguments l (datum b) (items_in b))
     by false true = some_call_none (name_in b) (arguments k (datum a) (items_in a))
     by false false = refl
@@ -229,7 +242,8 @@ escape_none k (Some t) e = by (is_among k escapes) e
 
 module _ {A : Type 0} where
   -- an object is a record where its members make one
-  pub object_fields : (ms : List (Entry A)) → is_some (and_then (datum (object (members_view ms))) named_fields) ≡ is_some (and_then (entries (members_view ms)) record_with)
+  pub object_fields : (ms : List (Entry A))
+      → is_some (and_then (datum (object (members_view ms))) named_fields) ≡ is_some (and_then (entries (members_view ms)) record_with)
   object_fields [] = record_fields (Some [])
   object_fields (m ∷ []) = by (is_text m.0.now (codes "__entity")) refl (is_text m.0.now (codes "__extn")) refl
     where
@@ -242,16 +256,19 @@ module _ {A : Type 0} where
 
 -- ---- entities
 
-some_entity : (uid : Option Uid) (parents : Option (Option (List Uid))) (attributes tags : Option (Option Fields)) → is_some (entity_with uid parents attributes tags) ≡ (((is_some uid && is_some parents) && is_some attributes) && is_some tags)
+some_entity : (uid : Option Uid) (parents : Option (Option (List Uid))) (attributes tags : Option (Option Fields))
+    → is_some (entity_with uid parents attributes tags) ≡ (((is_some uid && is_some parents) && is_some attributes) && is_some tags)
 some_entity (Some u) (Some p) (Some a) (Some t) = refl
 some_entity (Some u) (Some p) (Some a) None = refl
 some_entity (Some u) (Some p) None t = refl
 some_entity (Some u) None a t = refl
 some_entity None p a t = refl
 
-pub some_body : (ms : Members) → is_some (body_of ms) ≡ (((is_some (and_then (under (codes "uid") ms) entity_in) && is_some (if_there parents_in (under (codes "parents") ms)))
+pub some_body : (ms : Members) → is_some (body_of ms) ≡
+    (((is_some (and_then (under (codes "uid") ms) entity_in) && is_some (if_there parents_in (under (codes "parents") ms)))
     && is_some (if_there fields_in (under (codes "attrs") ms))) && is_some (if_there fields_in (under (codes "tags") ms)))
-some_body ms = some_entity (and_then (under (codes "uid") ms) entity_in) (if_there parents_in (under (codes "parents") ms)) (if_there fields_in (under (codes "attrs") ms)) (if_there fields_in (under (codes "tags") ms))
+some_body ms = some_entity (and_then (under (codes "uid") ms) entity_in) (if_there parents_in (under (codes "parents") ms))
+    (if_there fields_in (under (codes "attrs") ms)) (if_there fields_in (under (codes "tags") ms))
 
 pub some_there : {B : Type 0} → (read : Json → Option B) (j : Json) → is_some (if_there read (Some j)) ≡ is_some (read j)
 some_there read j = some_map _ (read j)
@@ -264,3 +281,26 @@ unique_under key (member k i ms) j u e = by (λ f. unique_under key ms j u.1 f) 
     by : (Some j ≡ under key ms → HasUniqueKeys j) → (b : Bool) → Some j ≡ cond b (Some i) (under key ms) → HasUniqueKeys j
     by others true f = let same : i ≡ j = cc f in subst HasUniqueKeys same u.0
     by others false f = others f
+
+-- ---- four tests
+
+pub first_false : (a b c d : Bool) → a ≡ false → (((a && b) && c) && d) ≡ false
+first_false true b c d e = absurd (cc e)
+first_false false b c d e = refl
+
+pub second_false : (a b c d : Bool) → b ≡ false → (((a && b) && c) && d) ≡ false
+second_false true true c d e = absurd (cc e)
+second_false true false c d e = refl
+second_false false b c d e = refl
+
+pub third_false : (a b c d : Bool) → c ≡ false → (((a && b) && c) && d) ≡ false
+third_false a b true d e = absurd (cc e)
+third_false true true false d e = refl
+third_false true false false d e = refl
+third_false false b false d e = refl
+
+pub fourth_is : (a b c d : Bool) → a ≡ true → b ≡ true → c ≡ true → (((a && b) && c) && d) ≡ d
+fourth_is true true true d e f g = refl
+fourth_is false b c d e f g = absurd (cc e)
+fourth_is true false c d e f g = absurd (cc f)
+fourth_is true true false d e f g = absurd (cc g)

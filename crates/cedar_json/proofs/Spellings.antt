@@ -169,21 +169,24 @@ one_colon : (t : Text) → get_or t 0 0 ≢ 58 → IsSpoiled (words_between (col
 one_colon [] h = refl
 one_colon (c ∷ cs) h = by (c == colon) refl
   where
-    by : (b : Bool) → (c == colon) ≡ b → IsSpoiled (elim b as (λ _. List Text) [ true ↦ [] ∷ words_between cs | false ↦ onto_first colon (onto_first c (words_between cs)) ])
+    by : (b : Bool) → (c == colon) ≡ b
+        → IsSpoiled (elim b as (λ _. List Text) [ true ↦ [] ∷ words_between cs | false ↦ onto_first colon (onto_first c (words_between cs)) ])
     by true e = absurd (h (eqb-true c colon e))
     by false e = colon_first (onto_first c (words_between cs))
 
 spoils : (w t : Text) → IsPlain w → get_or t 0 0 ≢ 58 → IsSpoiled (words_between (w ++ colon ∷ t))
 spoils [] t plain h = one_colon t h
 spoils (c ∷ cs) t plain h =
-    subst IsSpoiled (sym (past c (cs ++ colon ∷ t) (first_plain c cs plain))) (spoiled_on c (words_between (cs ++ colon ∷ t)) (spoils cs t (rest_plain c cs plain) h))
+    subst IsSpoiled (sym (past c (cs ++ colon ∷ t) (first_plain c cs plain)))
+    (spoiled_on c (words_between (cs ++ colon ∷ t)) (spoils cs t (rest_plain c cs plain) h))
 
 spoiled_none : (ws : List Text) → IsSpoiled ws → list_all is_free_word ws ≡ false
 spoiled_none [] h = absurd h
 spoiled_none ([] ∷ ws) h = refl
 spoiled_none ((c ∷ cs) ∷ ws) h = by (begins_word c) refl (list_all is_in_word cs) refl
   where
-    by : (a : Bool) → begins_word c ≡ a → (b : Bool) → list_all is_in_word cs ≡ b → (((a && b) && is_some (id_of (word_of (c ∷ cs)))) && list_all is_free_word ws) ≡ false
+    by : (a : Bool) → begins_word c ≡ a → (b : Bool) → list_all is_in_word cs ≡ b
+        → (((a && b) && is_some (id_of (word_of (c ∷ cs)))) && list_all is_free_word ws) ≡ false
     by true e true f = absurd (true≢false (sym (ap (λ x. x && list_all is_in_word cs) (first_in_word c e) ∙ f) ∙ h))
     by true e false f = refl
     by false e b f = refl

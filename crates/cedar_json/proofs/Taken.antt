@@ -108,20 +108,24 @@ module _ {A : Type 0} where
   many_written (m ∷ []) other = absurd (other refl)
   many_written (m ∷ n ∷ ms) other = refl
 
-  pub one_written : (ms : List (Entry A)) (m : Entry A) → ms ≡ m ∷ [] → is_text m.0.now (codes "__entity") ≡ false → is_text m.0.now (codes "__extn") ≡ false → written (object (members_view ms)) ≡ 123 ∷ members_written (members_view ms)
+  pub one_written : (ms : List (Entry A)) (m : Entry A) → ms ≡ m ∷ [] → is_text m.0.now (codes "__entity") ≡ false → is_text m.0.now (codes "__extn") ≡ false
+      → written (object (members_view ms)) ≡ 123 ∷ members_written (members_view ms)
   one_written ms m e f g = rw (e, f, g) refl
 
-  pub two_strings_are : (ms : List (Entry A)) (m n : Entry A) (s t : Text) → ms ≡ m ∷ n ∷ [] → Some s ≡ as_str (value_view m.1) → Some t ≡ as_str (value_view n.1)
+  pub two_strings_are : (ms : List (Entry A)) (m n : Entry A) (s t : Text) → ms ≡ m ∷ n ∷ [] → Some s ≡ as_str (value_view m.1)
+      → Some t ≡ as_str (value_view n.1)
       → object (members_view ms) ≡ object (member m.0.now (string s) (member n.0.now (string t) no_members))
   two_strings_are ms m n s t e f g =
       ap (λ ns. object (members_view ns)) e
       ∙ ap (λ j. object (member m.0.now j (member n.0.now (value_view n.1) no_members))) (string_is (value_view m.1) s (sym f))
       ∙ ap (λ j. object (member m.0.now (string s) (member n.0.now j no_members))) (string_is (value_view n.1) t (sym g))
 
-  pub entity_written_is : (ms : List (Entry A)) (m : Entry A) → ms ≡ m ∷ [] → is_text m.0.now (codes "__entity") ≡ true → written (object (members_view ms)) ≡ uid_written (value_view m.1)
+  pub entity_written_is : (ms : List (Entry A)) (m : Entry A) → ms ≡ m ∷ [] → is_text m.0.now (codes "__entity") ≡ true
+      → written (object (members_view ms)) ≡ uid_written (value_view m.1)
   entity_written_is ms m e f = rw (e, f) refl
 
-  pub call_written_is : (ms : List (Entry A)) (m : Entry A) → ms ≡ m ∷ [] → is_text m.0.now (codes "__entity") ≡ false → is_text m.0.now (codes "__extn") ≡ true → written (object (members_view ms)) ≡ call_written (value_view m.1)
+  pub call_written_is : (ms : List (Entry A)) (m : Entry A) → ms ≡ m ∷ [] → is_text m.0.now (codes "__entity") ≡ false
+      → is_text m.0.now (codes "__extn") ≡ true → written (object (members_view ms)) ≡ call_written (value_view m.1)
   call_written_is ms m e f g = rw (e, f, g) refl
 
   -- a call, by whether its function stands first
@@ -129,7 +133,8 @@ module _ {A : Type 0} where
   call_by b m n =
       cond b (name_written (value_view m.1) ++ arguments_in n.0.now (value_view n.1)) (name_written (value_view n.1) ++ arguments_in m.0.now (value_view m.1))
 
-  pub call_is : (ms : List (Entry A)) (m n : Entry A) (b : Bool) → ms ≡ m ∷ n ∷ [] → is_text m.0.now (codes "fn") ≡ b → call_written (object (members_view ms)) ≡ call_by b m n
+  pub call_is : (ms : List (Entry A)) (m n : Entry A) (b : Bool) → ms ≡ m ∷ n ∷ [] → is_text m.0.now (codes "fn") ≡ b
+      → call_written (object (members_view ms)) ≡ call_by b m n
   call_is ms m n b e f = rw (e, f) refl
 
 pub same_flipped : (k l : Text) → is_text k l ≡ true → is_text l k ≡ true
@@ -150,7 +155,8 @@ module _ {A : Type 0} where
   many_entity (m ∷ []) other = absurd (other refl)
   many_entity (m ∷ n ∷ ms) other = refl
 
-  pub one_entity : (ms : List (Entry A)) (m : Entry A) (b : Bool) → ms ≡ m ∷ [] → is_text m.0.now (codes "__entity") ≡ b → entity_in (object (members_view ms)) ≡ cond b (uid_in (value_view m.1)) None
+  pub one_entity : (ms : List (Entry A)) (m : Entry A) (b : Bool) → ms ≡ m ∷ [] → is_text m.0.now (codes "__entity") ≡ b
+      → entity_in (object (members_view ms)) ≡ cond b (uid_in (value_view m.1)) None
   one_entity ms m b e f = rw (e, f) refl
 
   pub many_entity_written : (ms : List (Entry A)) → (length ms ≡ 1 → ⊥) → entity_written (object (members_view ms)) ≡ uid_written (object (members_view ms))

@@ -8,3 +8,4 @@ pub mod Laws
 pub mod Rows
 pub mod Appended
 pub mod Parts
+pub mod Said

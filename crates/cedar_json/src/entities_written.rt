@@ -1,5 +1,5 @@
 // Entities of JSON as Cedar texts.
-ghost use Rattle.std.specs.Prelude.{codes, option_map};
+ghost use Rattle.std.specs.Prelude.{Some, codes, option_map};
 ghost use Rattle.json.specs.Json.{object};
 ghost use Rattle.json.specs.Value.{value_view, items_view, members_view};
 ghost use Rattle.cedar_json.specs.Appended.{Appends};
@@ -35,7 +35,7 @@ fn write_entities_of(out: &mut String, items: &Vec<Value<'_>>) -> Result<(), All
 }
 
 fn write_uid_found(out: &mut String, found: Option<&Value<'_>>) -> Result<(), AllocError>
-    ensures { Appends result out.old out.new (uid_part (option_map (λ value. value_view value.now) found)) }
+    ensures { Appends result out.old out.new (uid_part (option_map (λ value. value_view value.now) found.entry)) }
 {
     match found {
         Some(value) => write_entity(out, value),
@@ -43,11 +43,11 @@ fn write_uid_found(out: &mut String, found: Option<&Value<'_>>) -> Result<(), Al
     }
 }
 
-fn write_parents_found(out: &mut String, found: Option<&Value<'_>>) -> Result<(), AllocError>
-    ensures { Appends result out.old out.new (parents_written (option_map (λ value. value_view value.now) found)) }
+fn write_parents_of(out: &mut String, value: &Value<'_>) -> Result<(), AllocError>
+    ensures { Appends result out.old out.new (parents_written (Some (value_view value.now))) }
 {
-    match found {
-        Some(Value::Array(items)) => {
+    match value {
+        Value::Array(items) => {
             out.push('[')?;
             write_entities_of(out, items)
         }
@@ -55,8 +55,17 @@ fn write_parents_found(out: &mut String, found: Option<&Value<'_>>) -> Result<()
     }
 }
 
+fn write_parents_found(out: &mut String, found: Option<&Value<'_>>) -> Result<(), AllocError>
+    ensures { Appends result out.old out.new (parents_written (option_map (λ value. value_view value.now) found.entry)) }
+{
+    match found {
+        Some(value) => write_parents_of(out, value),
+        None => out.push_str("[]"),
+    }
+}
+
 fn write_fields_found(out: &mut String, found: Option<&Value<'_>>) -> Result<(), AllocError>
-    ensures { Appends result out.old out.new (fields_written (option_map (λ value. value_view value.now) found)) }
+    ensures { Appends result out.old out.new (fields_written (option_map (λ value. value_view value.now) found.entry)) }
 {
     match found {
         Some(value) => write_value(out, value),

@@ -23,7 +23,9 @@ loop-item-preserved c =
     let l = c.loop-item in
     let xs = c.deref-item-items.result.now in
     let x = c.item-item.result in
-    let here : drop l.item-index xs ≡ x ∷ drop (l.item-index + 1) xs = drop_more xs l.item-index x (omega arith) ∙ ap (λ y. y ∷ drop (l.item-index + 1) xs) (sym c.item-item.is) in
-    item_step (string_bytes l.out) (string_bytes c.write_entity.new.out) (string_bytes c.push.new.self) (entity_written (value_view x)) (each_written (items_view (drop (l.item-index + 1) xs))) _ 44
+    let here : drop l.item-index xs ≡ x ∷ drop (l.item-index + 1) xs = drop_more xs l.item-index x (omega arith)
+    ∙ ap (λ y. y ∷ drop (l.item-index + 1) xs) (sym c.item-item.is) in
+    item_step (string_bytes l.out) (string_bytes c.write_entity.new.out) (string_bytes c.push.new.self) (entity_written (value_view x))
+    (each_written (items_view (drop (l.item-index + 1) xs))) _ 44
     c.in_ok-write_entity.ensures c.in_ok-push.ensures.bytes
     (ap (λ ys. string_bytes l.out ++ encode_utf8_all (each_written (items_view ys))) (sym here) ∙ l.invariant)

@@ -8,5 +8,6 @@ use Rattle.cedar_json.proofs.entities_written.write_one.Goals as goal
 
 pub returns-in-Object : goal.returns-in-Object
 returns-in-Object c =
-    on_same c.write_body.result (string_bytes c.args.out.now) (string_bytes c.write_body.new.out) (body_written (members_view c.in-Object.members.items)) (one_written (value_view c.args.value.now))
+    on_same c.write_body.result (string_bytes c.args.out.now) (string_bytes c.write_body.new.out) (body_written (members_view c.in-Object.members.items))
+    (one_written (value_view c.args.value.now))
     (sym (ap one_written (ap value_view c.in-Object.is ∙ view-Object c.in-Object.members))) c.write_body.ensures

@@ -60,11 +60,13 @@ words-preserved c =
     let yes : c.is_normalized_ident.result ≡ true = grind arith in
     let free : is_free_word word.now ≡ true = sym (ident_is c.is_normalized_ident.result word.now c.is_normalized_ident.ensures) ∙ yes in (
       c.range_from-rest.utf8,
-      ap all_free c.range_from-rest.ensures.value ∙ ap (λ b. b && all_free next) (sym free) ∙ sym (first_word rest word.now next are parts.1) ∙ c.words.invariant.1,
+      ap all_free c.range_from-rest.ensures.value ∙ ap (λ b. b && all_free next) (sym free) ∙ sym (first_word rest word.now next are parts.1)
+          ∙ c.words.invariant.1,
     )
 
 pub returns : goal.returns
 returns c =
     let rest = c.words.rest.now in
     let plain = split_parts 58 rest None c.in_default.ensures.cases (lit< tt) in
-    ident_is c.is_normalized_ident-2.result rest c.is_normalized_ident-2.ensures ∙ sym (last_word rest plain) ∙ c.words.invariant.1 ∙ sym (spelled_free c.args.text.now)
+    ident_is c.is_normalized_ident-2.result rest c.is_normalized_ident-2.ensures ∙ sym (last_word rest plain) ∙ c.words.invariant.1
+    ∙ sym (spelled_free c.args.text.now)

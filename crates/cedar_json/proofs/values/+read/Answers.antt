@@ -36,7 +36,8 @@ are_values-returns-then-not-is_value t c =
     let xs = c.deref-item-items.result.now in
     let x = c.item-item.result in
     let later = items_view (drop (l.item-index + 1) xs) in
-    let here : drop l.item-index xs ≡ x ∷ drop (l.item-index + 1) xs = drop_more xs l.item-index x (omega arith) ∙ ap (λ y. y ∷ drop (l.item-index + 1) xs) (sym c.item-item.is) in
+    let here : drop l.item-index xs ≡ x ∷ drop (l.item-index + 1) xs = drop_more xs l.item-index x (omega arith)
+    ∙ ap (λ y. y ∷ drop (l.item-index + 1) xs) (sym c.item-item.is) in
     let no : c.is_value.result ≡ false = grind arith in
     λ u.
     let had = l.invariant (subst (λ ys. ItemsHaveUniqueKeys (items_view ys)) (sym c.deref-item-items.ensures.value) u) in
@@ -50,12 +51,16 @@ are_values-loop-item-preserved t c =
     let xs = c.deref-item-items.result.now in
     let x = c.item-item.result in
     let later = items_view (drop (l.item-index + 1) xs) in
-    let here : drop l.item-index xs ≡ x ∷ drop (l.item-index + 1) xs = drop_more xs l.item-index x (omega arith) ∙ ap (λ y. y ∷ drop (l.item-index + 1) xs) (sym c.item-item.is) in
+    let here : drop l.item-index xs ≡ x ∷ drop (l.item-index + 1) xs = drop_more xs l.item-index x (omega arith)
+    ∙ ap (λ y. y ∷ drop (l.item-index + 1) xs) (sym c.item-item.is) in
     let yes : c.is_value.result ≡ true = grind arith in
     λ u.
     let had = l.invariant u in
-    let both = subst (λ ys. ItemsHaveUniqueKeys (items_view ys)) here had.0 in
-    (both.1, sym (ap (λ ys. is_some (data_of (items_view ys))) here ∙ some_read (datum (value_view x)) (data_of later) ∙ ap (λ b. b && is_some (data_of later)) (sym (c.is_value.ensures both.0) ∙ yes)) ∙ had.1)
+    let both = subst (λ ys. ItemsHaveUniqueKeys (items_view ys)) here had.0 in (
+      both.1,
+      sym (ap (λ ys. is_some (data_of (items_view ys))) here ∙ some_read (datum (value_view x)) (data_of later)
+          ∙ ap (λ b. b && is_some (data_of later)) (sym (c.is_value.ensures both.0) ∙ yes)) ∙ had.1,
+    )
 
 pub are_values-returns : goal.are_values-returns
 are_values-returns t c =
@@ -110,7 +115,8 @@ are_entries-returns-then-is_escape t c =
     let xs = c.deref-member-items.result.now in
     let x = c.member-item.result in
     let later = members_view (drop (l.member-index + 1) xs) in
-    let here : drop l.member-index xs ≡ x ∷ drop (l.member-index + 1) xs = drop_more xs l.member-index x (omega arith) ∙ ap (λ y. y ∷ drop (l.member-index + 1) xs) (sym c.member-item.is) in
+    let here : drop l.member-index xs ≡ x ∷ drop (l.member-index + 1) xs = drop_more xs l.member-index x (omega arith)
+    ∙ ap (λ y. y ∷ drop (l.member-index + 1) xs) (sym c.member-item.is) in
     let yes : is_among x.0.now escapes ≡ true = sym c.is_escape.ensures ∙ grind arith in
     λ u.
     let had = l.invariant (subst (λ ys. MembersHaveUniqueKeys (members_view ys)) (sym c.deref-member-items.ensures.value) u.1) in
@@ -123,7 +129,8 @@ are_entries-returns-then-not-is_value t c =
     let xs = c.deref-member-items.result.now in
     let x = c.member-item.result in
     let later = members_view (drop (l.member-index + 1) xs) in
-    let here : drop l.member-index xs ≡ x ∷ drop (l.member-index + 1) xs = drop_more xs l.member-index x (omega arith) ∙ ap (λ y. y ∷ drop (l.member-index + 1) xs) (sym c.member-item.is) in
+    let here : drop l.member-index xs ≡ x ∷ drop (l.member-index + 1) xs = drop_more xs l.member-index x (omega arith)
+    ∙ ap (λ y. y ∷ drop (l.member-index + 1) xs) (sym c.member-item.is) in
     let other : is_among x.0.now escapes ≡ false = sym c.is_escape.ensures ∙ grind arith in
     let no : c.is_value.result ≡ false = grind arith in
     λ u.
@@ -138,14 +145,16 @@ are_entries-loop-member-preserved t c =
     let xs = c.deref-member-items.result.now in
     let x = c.member-item.result in
     let later = members_view (drop (l.member-index + 1) xs) in
-    let here : drop l.member-index xs ≡ x ∷ drop (l.member-index + 1) xs = drop_more xs l.member-index x (omega arith) ∙ ap (λ y. y ∷ drop (l.member-index + 1) xs) (sym c.member-item.is) in
+    let here : drop l.member-index xs ≡ x ∷ drop (l.member-index + 1) xs = drop_more xs l.member-index x (omega arith)
+    ∙ ap (λ y. y ∷ drop (l.member-index + 1) xs) (sym c.member-item.is) in
     let other : is_among x.0.now escapes ≡ false = sym c.is_escape.ensures ∙ grind arith in
     let yes : c.is_value.result ≡ true = grind arith in
     λ u.
     let had = l.invariant u in
     let both = subst (λ ys. MembersHaveUniqueKeys (members_view ys)) here had.0 in (
       both.1,
-      sym (ap (λ ys. sound (members_view ys)) here ∙ ap (λ b. (not b && is_some (datum (value_view x.1))) && sound later) other ∙ ap (λ b. b && sound later) (sym (c.is_value.ensures both.0) ∙ yes)) ∙ had.1,
+      sym (ap (λ ys. sound (members_view ys)) here ∙ ap (λ b. (not b && is_some (datum (value_view x.1))) && sound later) other
+          ∙ ap (λ b. b && sound later) (sym (c.is_value.ensures both.0) ∙ yes)) ∙ had.1,
     )
 
 pub are_entries-returns : goal.are_entries-returns
@@ -254,4 +263,5 @@ are_arguments-returns-in-Array t c =
     let seen : j ≡ array js = ap value_view c.in-Array.is ∙ view-Array c.in-Array.items in
     let other : is_text c.args.key.now (codes "arg") ≡ false = grind arith in
     let same : is_text c.args.key.now (codes "args") ≡ true = grind arith in
-    λ u. c.are_values.ensures (subst HasUniqueKeys seen u) ∙ ap (λ i. is_some (items_in i)) (sym seen) ∙ sym (some_arguments c.args.key.now (datum j) (items_in j) other same)
+    λ u. c.are_values.ensures (subst HasUniqueKeys seen u) ∙ ap (λ i. is_some (items_in i)) (sym seen)
+    ∙ sym (some_arguments c.args.key.now (datum j) (items_in j) other same)

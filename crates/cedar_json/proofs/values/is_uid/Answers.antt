@@ -16,7 +16,8 @@ pub returns-then-eq-2 : goal.returns-then-eq-2
 returns-then-eq-2 c =
     let p = c.in-Some.pair in
     let same : is_text p.first.0.now (codes "id") ≡ true = grind arith in
-    c.is_named_under-then-eq-2.ensures ∙ sym (ap (λ j. is_some (uid_in j)) c.in-Some.ensures ∙ id_first p.first.0.now p.first.1.now p.second.0.now p.second.1.now same)
+    c.is_named_under-then-eq-2.ensures
+    ∙ sym (ap (λ j. is_some (uid_in j)) c.in-Some.ensures ∙ id_first p.first.0.now p.first.1.now p.second.0.now p.second.1.now same)
 
 pub returns : goal.returns
 returns c =

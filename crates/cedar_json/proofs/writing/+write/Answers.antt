@@ -78,7 +78,8 @@ write_call-returns-in_ok-write_name-2 t c =
     let other : is_text m.0.now (codes "fn") ≡ false = grind arith in
     let name = name_written (value_view n.1) in
     let rest = arguments_in m.0.now (value_view m.1) in
-    on_same c.write_arguments-else-eq.result a e (name ++ rest) (call_written (value_view c.args.value.now)) (sym (ap call_written seen ∙ call_is ms m n false are other))
+    on_same c.write_arguments-else-eq.result a e (name ++ rest) (call_written (value_view c.args.value.now))
+    (sym (ap call_written seen ∙ call_is ms m n false are other))
     (on_grown c.write_arguments-else-eq.result a b e name rest c.in_ok-write_name-2.ensures c.write_arguments-else-eq.ensures)
 
 pub write_object-returns-then-eq : goal.write_object-returns-then-eq
@@ -88,7 +89,8 @@ write_object-returns-then-eq t c =
     let one : length ms ≡ 1 = omega arith in
     let is : ms ≡ m ∷ [] = one_is ms m one c.index-member.ensures in
     let same : is_text m.0.now (codes "__entity") ≡ true = grind arith in
-    on_same c.write_uid.result (string_bytes c.args.out.now) (string_bytes c.write_uid.new.out) (uid_written (value_view m.1)) (written (object (members_view ms)))
+    on_same c.write_uid.result (string_bytes c.args.out.now) (string_bytes c.write_uid.new.out) (uid_written (value_view m.1))
+    (written (object (members_view ms)))
     (sym (entity_written_is ms m is same)) c.write_uid.ensures
 
 pub write_object-returns-then-eq-2 : goal.write_object-returns-then-eq-2
@@ -99,7 +101,8 @@ write_object-returns-then-eq-2 t c =
     let is : ms ≡ m ∷ [] = one_is ms m one c.index-member.ensures in
     let other : is_text m.0.now (codes "__entity") ≡ false = grind arith in
     let same : is_text m.0.now (codes "__extn") ≡ true = grind arith in
-    on_same c.write_call.result (string_bytes c.args.out.now) (string_bytes c.write_call.new.out) (call_written (value_view m.1)) (written (object (members_view ms)))
+    on_same c.write_call.result (string_bytes c.args.out.now) (string_bytes c.write_call.new.out) (call_written (value_view m.1))
+    (written (object (members_view ms)))
     (sym (call_written_is ms m is other same)) c.write_call.ensures
 
 pub write_object-returns : goal.write_object-returns
@@ -151,8 +154,10 @@ write_items-loop-item-preserved t c =
     let xs = c.deref-item-items.result.now in
     let x = c.item-item.result in
     let close = c.args.close in
-    let here : drop l.item-index xs ≡ x ∷ drop (l.item-index + 1) xs = drop_more xs l.item-index x (omega arith) ∙ ap (λ y. y ∷ drop (l.item-index + 1) xs) (sym c.item-item.is) in
-    item_step (string_bytes l.out) (string_bytes c.write_value.new.out) (string_bytes c.push.new.self) (written (value_view x)) (items_written close (items_view (drop (l.item-index + 1) xs))) _ 44
+    let here : drop l.item-index xs ≡ x ∷ drop (l.item-index + 1) xs = drop_more xs l.item-index x (omega arith)
+    ∙ ap (λ y. y ∷ drop (l.item-index + 1) xs) (sym c.item-item.is) in
+    item_step (string_bytes l.out) (string_bytes c.write_value.new.out) (string_bytes c.push.new.self) (written (value_view x))
+    (items_written close (items_view (drop (l.item-index + 1) xs))) _ 44
     c.in_ok-write_value.ensures c.in_ok-push.ensures.bytes
     (ap (λ ys. string_bytes l.out ++ encode_utf8_all (items_written close (items_view ys))) (sym here) ∙ l.invariant)
 
@@ -173,8 +178,10 @@ write_members-loop-member-preserved t c =
     let l = c.loop-member in
     let xs = c.deref-member-items.result.now in
     let x = c.member-item.result in
-    let here : drop l.member-index xs ≡ x ∷ drop (l.member-index + 1) xs = drop_more xs l.member-index x (omega arith) ∙ ap (λ y. y ∷ drop (l.member-index + 1) xs) (sym c.member-item.is) in
-    entry_step (string_bytes l.out) (string_bytes c.write_key.new.out) (string_bytes c.write_value.new.out) (string_bytes c.push.new.self) x.0.now (written (value_view x.1))
+    let here : drop l.member-index xs ≡ x ∷ drop (l.member-index + 1) xs = drop_more xs l.member-index x (omega arith)
+    ∙ ap (λ y. y ∷ drop (l.member-index + 1) xs) (sym c.member-item.is) in
+    entry_step (string_bytes l.out) (string_bytes c.write_key.new.out) (string_bytes c.write_value.new.out) (string_bytes c.push.new.self) x.0.now
+    (written (value_view x.1))
     (members_written (members_view (drop (l.member-index + 1) xs))) _
     c.in_ok-write_key.ensures c.in_ok-write_value.ensures c.in_ok-push.ensures.bytes
     (ap (λ ys. string_bytes l.out ++ encode_utf8_all (members_written (members_view ys))) (sym here) ∙ l.invariant)

@@ -14,7 +14,8 @@ returns-then-eq c =
     let x = c.member-item.result in
     let key = c.args.key.now in
     let later = members_view (drop (l.member-index + 1) xs) in
-    let here : drop l.member-index xs ≡ x ∷ drop (l.member-index + 1) xs = drop_more xs l.member-index x (omega arith) ∙ ap (λ y. y ∷ drop (l.member-index + 1) xs) (sym c.member-item.is) in
+    let here : drop l.member-index xs ≡ x ∷ drop (l.member-index + 1) xs = drop_more xs l.member-index x (omega arith)
+    ∙ ap (λ y. y ∷ drop (l.member-index + 1) xs) (sym c.member-item.is) in
     let flipped : is_text x.0.now key ≡ true = grind arith in
     let same : is_text key x.0.now ≡ true = same_flipped x.0.now key flipped in
     sym (sym (ap (λ ys. under key (members_view ys)) c.deref-member-items.ensures.value) ∙ sym l.invariant ∙ ap (λ ys. under key (members_view ys)) here
@@ -27,7 +28,8 @@ loop-member-preserved c =
     let x = c.member-item.result in
     let key = c.args.key.now in
     let later = members_view (drop (l.member-index + 1) xs) in
-    let here : drop l.member-index xs ≡ x ∷ drop (l.member-index + 1) xs = drop_more xs l.member-index x (omega arith) ∙ ap (λ y. y ∷ drop (l.member-index + 1) xs) (sym c.member-item.is) in
+    let here : drop l.member-index xs ≡ x ∷ drop (l.member-index + 1) xs = drop_more xs l.member-index x (omega arith)
+    ∙ ap (λ y. y ∷ drop (l.member-index + 1) xs) (sym c.member-item.is) in
     let flipped : is_text x.0.now key ≡ false = grind arith in
     let other : is_text key x.0.now ≡ false = other_flipped x.0.now key flipped in
     sym (ap (λ ys. under key (members_view ys)) here ∙ ap (λ b. cond b (Some (value_view x.1)) (under key later)) other) ∙ l.invariant

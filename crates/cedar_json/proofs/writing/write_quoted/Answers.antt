@@ -26,5 +26,6 @@ pub characters-preserved : goal.characters-preserved
 characters-preserved c =
     let a = string_bytes c.args.out.now in
     let d = string_bytes c.write_character.new.out in
-    grown a (string_bytes c.characters.out) d (quote ∷ escaped c.characters.yielded) (escaped_char c.in-Some.c) c.characters.invariant c.in_ok-write_character.ensures
+    grown a (string_bytes c.characters.out) d (quote ∷ escaped c.characters.yielded)
+    (escaped_char c.in-Some.c) c.characters.invariant c.in_ok-write_character.ensures
     ∙ ap (λ cs. a ++ encode_utf8_all (quote ∷ cs)) (sym (escaped_more c.characters.yielded c.in-Some.c))

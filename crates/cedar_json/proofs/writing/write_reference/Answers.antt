@@ -15,6 +15,7 @@ returns c =
     let e = string_bytes c.write_quoted.new.out in
     let type = chars c.args.entity_type.now in
     let id = quoted c.args.id.now in
-    let both = grown a b d type (colon ∷ colon ∷ []) c.in_ok-write_text.ensures (two_pushed b d colon colon (lit< tt) (lit< tt) c.in_ok-push_str.ensures.bytes) in
+    let both = grown a b d type (colon ∷ colon ∷ []) c.in_ok-write_text.ensures
+    (two_pushed b d colon colon (lit< tt) (lit< tt) c.in_ok-push_str.ensures.bytes) in
     on_same r a e ((type ++ colon ∷ colon ∷ []) ++ id) (uid_text c.args.entity_type.now c.args.id.now) (append_assoc type (colon ∷ colon ∷ []) id)
     (on_grown r a d e (type ++ colon ∷ colon ∷ []) id both c.write_quoted.ensures)

@@ -21,5 +21,6 @@ returns c =
     let one = uid_text p.first.1.now p.second.1.now in
     let other = uid_text p.second.1.now p.first.1.now in
     let not_same : is_text p.first.0.now (codes "type") ≡ false = grind arith in
-    on_same c.write_reference-2.result (string_bytes c.args.out.now) (string_bytes c.write_reference-2.new.out) other (uid_written (value_view c.args.value.now))
+    on_same c.write_reference-2.result (string_bytes c.args.out.now) (string_bytes c.write_reference-2.new.out) other
+    (uid_written (value_view c.args.value.now))
     (sym (ap uid_written c.in-Some.ensures ∙ ap (λ b. cond b one other) not_same)) c.write_reference-2.ensures
