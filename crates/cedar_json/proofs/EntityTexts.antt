@@ -44,19 +44,25 @@ entity_spelled names (object (member k j (member l i ms))) u a e = uid_spelled_b
 abbrev literals : List Uid → List Tree
 literals us = map (λ u. Lit (Entity u)) us
 
-each_by : (names : Names) (cs ds : List ℕ) (us : List Uid) (o : Option Uid) (os : Option (List Uid)) → read_with o os ≡ Some us → ((u : Uid) → o ≡ Some u → Spells names cs (Lit (Entity u)))
-    → ((vs : List Uid) → os ≡ Some vs → SpellsItems names token.RightBracket ds (literals vs)) → SpellsItems names token.RightBracket (cs ++ 44 ∷ ds) (literals us)
+each_by : (names : Names) (cs ds : List ℕ) (us : List Uid) (o : Option Uid) (os : Option (List Uid)) → read_with o os ≡ Some us
+    → ((u : Uid) → o ≡ Some u → Spells names cs (Lit (Entity u)))
+    → ((vs : List Uid) → os ≡ Some vs → SpellsItems names token.RightBracket ds (literals vs))
+    → SpellsItems names token.RightBracket (cs ++ 44 ∷ ds) (literals us)
 each_by names cs ds us (Some u) (Some vs) e f g =
     let same : u ∷ vs ≡ us = cc e in
-    subst (λ x. SpellsItems names token.RightBracket (cs ++ 44 ∷ ds) (literals x)) same (item_more names token.RightBracket cs ds (Lit (Entity u)) (literals vs) (f u refl) (g vs refl))
+    subst (λ x. SpellsItems names token.RightBracket (cs ++ 44 ∷ ds) (literals x)) same
+    (item_more names token.RightBracket cs ds (Lit (Entity u)) (literals vs) (f u refl) (g vs refl))
 each_by names cs ds us (Some u) None e f g = absurd (cc e)
 each_by names cs ds us None os e f g = absurd (cc e)
 
-each_spelled : (names : Names) (js : Items) (us : List Uid) → ItemsAreTexts js → each_entity js ≡ Some us → SpellsItems names token.RightBracket (each_written js) (literals us)
+each_spelled : (names : Names) (js : Items) (us : List Uid) → ItemsAreTexts js → each_entity js ≡ Some us
+    → SpellsItems names token.RightBracket (each_written js) (literals us)
 each_spelled names no_items us a e =
-    let same : [] ≡ us = cc e in subst (λ x. SpellsItems names token.RightBracket (93 ∷ []) (literals x)) same (no_item names token.RightBracket 93 right_bracket)
+    let same : [] ≡ us = cc e in subst (λ x. SpellsItems names token.RightBracket (93 ∷ []) (literals x)) same
+    (no_item names token.RightBracket 93 right_bracket)
 each_spelled names (item j js) us a e =
-    each_by names (entity_written j) (each_written js) us (entity_in j) (each_entity js) e (λ u f. entity_spelled names j u a.0 f) (λ vs f. each_spelled names js vs a.1 f)
+    each_by names (entity_written j) (each_written js) us (entity_in j) (each_entity js) e (λ u f. entity_spelled names j u a.0 f)
+    (λ vs f. each_spelled names js vs a.1 f)
 
 -- ---- parts of an entity
 
@@ -76,7 +82,8 @@ uid_spelled : (names : Names) (o : Option Json) (u : Uid) → TextsIf o → and_
 uid_spelled names None u a e = absurd (cc e)
 uid_spelled names (Some j) u a e = entity_spelled names j u a e
 
-list_of : (names : Names) (js : Items) (p : Option (List Uid)) (o : Option (List Uid)) → ItemsAreTexts js → each_entity js ≡ o → option_map (λ us. Some us) o ≡ Some p
+list_of : (names : Names) (js : Items) (p : Option (List Uid)) (o : Option (List Uid)) → ItemsAreTexts js → each_entity js ≡ o
+    → option_map (λ us. Some us) o ≡ Some p
     → Spells names (91 ∷ each_written js) (Apply MakeSet (trees (literals (unwrap_or p []))))
 list_of names js p None a f e = absurd (cc e)
 list_of names js p (Some us) a f e =
@@ -84,7 +91,8 @@ list_of names js p (Some us) a f e =
     subst (λ (x : Option (List Uid)). Spells names (91 ∷ each_written js) (Apply MakeSet (trees (literals (unwrap_or x []))))) same
     (list_spelled names (each_written js) (literals us) (each_spelled names js us a f))
 
-parents_spelled : (names : Names) (o : Option Json) (p : Option (List Uid)) → TextsIf o → if_there parents_in o ≡ Some p → Spells names (parents_written o) (Apply MakeSet (trees (literals (unwrap_or p []))))
+parents_spelled : (names : Names) (o : Option Json) (p : Option (List Uid)) → TextsIf o → if_there parents_in o ≡ Some p
+    → Spells names (parents_written o) (Apply MakeSet (trees (literals (unwrap_or p []))))
 parents_spelled names None p a e =
     let same : None ≡ p = cc e in
     subst (λ (x : Option (List Uid)). Spells names (91 ∷ 93 ∷ []) (Apply MakeSet (trees (literals (unwrap_or x []))))) same
@@ -102,7 +110,8 @@ record SpellsFields (cs : List ℕ) (p : Option Fields) : Type 0 where
   pub spells : (names : Names) → Calls names tree → Spells names cs tree
   pub fields : named_fields tree ≡ Some (unwrap_or p [])
 
-fields_by : (j : Json) (p : Option Fields) (o : Option Tree) → AreTexts j → datum j ≡ o → option_map (λ fs. Some fs) (and_then o named_fields) ≡ Some p → SpellsFields (written j) p
+fields_by : (j : Json) (p : Option Fields) (o : Option Tree) → AreTexts j → datum j ≡ o → option_map (λ fs. Some fs) (and_then o named_fields) ≡ Some p
+    → SpellsFields (written j) p
 fields_by j p None a f e = absurd (cc e)
 fields_by j p (Some t) a f e = by (named_fields t) refl e
   where
@@ -134,8 +143,10 @@ uids_read (u ∷ us) = ap (λ o. read_with (Some u) o) (uids_read us)
 abbrev made : Uid → List Uid → Fields → Fields → EntityBody
 made u us fs gs = record { uid = u; parents = set.from_list us; attributes = fs; tags = gs }
 
-body_read : (u : Uid) (us : List Uid) (a b : Tree) (fs gs : Fields) → named_fields a ≡ Some fs → named_fields b ≡ Some gs → entity_body (record_of (parts u us a b)) ≡ Some (made u us fs gs)
-body_read u us a b fs gs f g = λ i. entity_with (Some u) (option_map (λ x. Some x) (uids_read us i)) (option_map (λ x. Some x) (f i)) (option_map (λ x. Some x) (g i))
+body_read : (u : Uid) (us : List Uid) (a b : Tree) (fs gs : Fields) → named_fields a ≡ Some fs → named_fields b ≡ Some gs
+    → entity_body (record_of (parts u us a b)) ≡ Some (made u us fs gs)
+body_read u us a b fs gs f g = λ i. entity_with (Some u) (option_map (λ x. Some x) (uids_read us i)) (option_map (λ x. Some x) (f i))
+    (option_map (λ x. Some x) (g i))
 
 uid_utf8 : IsUtf8 (codes "uid")
 unfolding lib.Utf8.encode
@@ -159,10 +170,13 @@ record SpellsBody (cs : List ℕ) (body : EntityBody) : Type 0 where
   pub reads : entity_body tree ≡ Some body
 
 abbrev four : List ℕ → List ℕ → List ℕ → List ℕ → List ℕ
-four u p a t = 123 ∷ entry_written (codes "uid") u (entry_written (codes "parents") p (entry_written (codes "attrs") a (entry_written (codes "tags") t (125 ∷ []))))
+four u p a t = 123 ∷ entry_written (codes "uid") u
+    (entry_written (codes "parents") p (entry_written (codes "attrs") a (entry_written (codes "tags") t (125 ∷ []))))
 
-parts_spelled : (names : Names) (u : Uid) (us : List Uid) (a b : Tree) (cs ds es fs : List ℕ) → Spells names cs (Lit (Entity u)) → Spells names ds (Apply MakeSet (trees (literals us)))
-    → (Calls names a → Spells names es a) → (Calls names b → Spells names fs b) → Calls names (record_of (parts u us a b)) → Spells names (four cs ds es fs) (record_of (parts u us a b))
+parts_spelled : (names : Names) (u : Uid) (us : List Uid) (a b : Tree) (cs ds es fs : List ℕ) → Spells names cs (Lit (Entity u))
+    → Spells names ds (Apply MakeSet (trees (literals us)))
+    → (Calls names a → Spells names es a) → (Calls names b → Spells names fs b) → Calls names (record_of (parts u us a b))
+    → Spells names (four cs ds es fs) (record_of (parts u us a b))
 parts_spelled names u us a b cs ds es fs x y z w h =
     let all : AllCall names (values (parts u us a b)) = calls_unsorted (is_function names) (parts u us a b) h in
     let c : Tree → Bool = calls_only (is_function names) in
@@ -172,9 +186,11 @@ parts_spelled names u us a b cs ds es fs x y z w h =
     record_spelled names _ (parts u us a b)
     (entry_more names (codes "uid") cs _ (Lit (Entity u)) _ uid_utf8 x
     (entry_more names (codes "parents") ds _ (Apply MakeSet (trees (literals us))) _ parents_utf8 y
-    (entry_more names (codes "attrs") es _ a _ attrs_utf8 (z last.0) (entry_more names (codes "tags") fs (125 ∷ []) b [] tags_utf8 (w one) (no_entry names))))) refl
+    (entry_more names (codes "attrs") es _ a _ attrs_utf8 (z last.0)
+    (entry_more names (codes "tags") fs (125 ∷ []) b [] tags_utf8 (w one) (no_entry names))))) refl
 
-body_by : (x y z w : Option Json) (body : EntityBody) → TextsIf x → TextsIf y → TextsIf z → TextsIf w → (u : Option Uid) → and_then x entity_in ≡ u → (p : Option (Option (List Uid))) → if_there parents_in y ≡ p
+body_by : (x y z w : Option Json) (body : EntityBody) → TextsIf x → TextsIf y → TextsIf z → TextsIf w → (u : Option Uid) → and_then x entity_in ≡ u
+    → (p : Option (Option (List Uid))) → if_there parents_in y ≡ p
     → (q : Option (Option Fields)) → if_there fields_in z ≡ q → (r : Option (Option Fields)) → if_there fields_in w ≡ r → entity_with u p q r ≡ Some body
     → SpellsBody (four (uid_part x) (parents_written y) (fields_written z) (fields_written w)) body
 body_by x y z w body a b c d (Some u) e (Some p) f (Some q) g (Some r) h is =
@@ -185,7 +201,8 @@ body_by x y z w body a b c d (Some u) e (Some p) f (Some q) g (Some r) h is =
     record {
       tree = record_of (parts u us attributes.tree tags.tree);
       spells = λ names calls.
-          parts_spelled names u us attributes.tree tags.tree (uid_part x) (parents_written y) (fields_written z) (fields_written w) (uid_spelled names x u a e) (parents_spelled names y p b f) (attributes.spells names) (tags.spells names) calls;
+          parts_spelled names u us attributes.tree tags.tree (uid_part x) (parents_written y) (fields_written z) (fields_written w)
+          (uid_spelled names x u a e) (parents_spelled names y p b f) (attributes.spells names) (tags.spells names) calls;
       reads = body_read u us attributes.tree tags.tree (unwrap_or q []) (unwrap_or r []) attributes.fields tags.fields ∙ ap Some same;
     }
 body_by x y z w body a b c d None e p f q g r h is = absurd (cc is)
@@ -196,7 +213,8 @@ body_by x y z w body a b c d (Some u) e (Some p) f (Some q) g None h is = absurd
 object_by : (ms : Members) (body : EntityBody) (b : Bool) → MembersAreTexts ms → cond b (body_of ms) None ≡ Some body → SpellsBody (body_written ms) body
 object_by ms body true a e =
     body_by (under (codes "uid") ms) (under (codes "parents") ms) (under (codes "attrs") ms) (under (codes "tags") ms) body
-    (under_texts (codes "uid") ms a) (under_texts (codes "parents") ms a) (under_texts (codes "attrs") ms a) (under_texts (codes "tags") ms a) _ refl _ refl _ refl _ refl e
+    (under_texts (codes "uid") ms a) (under_texts (codes "parents") ms a) (under_texts (codes "attrs") ms a)
+    (under_texts (codes "tags") ms a) _ refl _ refl _ refl _ refl e
 object_by ms body false a e = absurd (cc e)
 
 body_spelled : (j : Json) (body : EntityBody) → AreTexts j → body_in j ≡ Some body → SpellsBody (one_written j) body
@@ -214,7 +232,8 @@ record SpellsBodies (cs : List ℕ) (bodies : List EntityBody) : Type 0 where
   pub spells : (names : Names) → AllCall names items → SpellsItems names token.RightBracket cs items
   pub reads : each entity_body (trees items) ≡ Some bodies
 
-bodies_by : (cs ds : List ℕ) (bodies : List EntityBody) (o : Option EntityBody) (os : Option (List EntityBody)) → read_with o os ≡ Some bodies → ((body : EntityBody) → o ≡ Some body → SpellsBody cs body)
+bodies_by : (cs ds : List ℕ) (bodies : List EntityBody) (o : Option EntityBody) (os : Option (List EntityBody)) → read_with o os ≡ Some bodies
+    → ((body : EntityBody) → o ≡ Some body → SpellsBody cs body)
     → ((others : List EntityBody) → os ≡ Some others → SpellsBodies ds others) → SpellsBodies (cs ++ 44 ∷ ds) bodies
 bodies_by cs ds bodies (Some body) (Some others) e f g =
     let same : body ∷ others ≡ bodies = cc e in
@@ -232,20 +251,25 @@ bodies_by cs ds bodies None os e f g = absurd (cc e)
 
 bodies_spelled : (js : Items) (bodies : List EntityBody) → ItemsAreTexts js → bodies_of js ≡ Some bodies → SpellsBodies (bodies_written js) bodies
 bodies_spelled no_items bodies a e = record { items = []; spells = λ names all. no_item names token.RightBracket 93 right_bracket; reads = e }
-bodies_spelled (item j js) bodies a e = bodies_by (one_written j) (bodies_written js) bodies (body_in j) (bodies_of js) e (λ body f. body_spelled j body a.0 f) (λ others f. bodies_spelled js others a.1 f)
+bodies_spelled (item j js) bodies a e = bodies_by (one_written j) (bodies_written js) bodies (body_in j) (bodies_of js) e
+    (λ body f. body_spelled j body a.0 f) (λ others f. bodies_spelled js others a.1 f)
 
 abbrev IsBody : Text → List EntityBody → Type 0
 IsBody text bodies = (t : Tree) × IsTextOf text t × (entity_bodies t ≡ Some bodies)
 
-pub entities_text : (j : Json) (bodies : List EntityBody) (text : Text) → AreTexts j → entities_in j ≡ Some bodies → IsUtf8 text → encode_utf8_all (entities_written j) ≡ text → IsBody text bodies
+pub entities_text : (j : Json) (bodies : List EntityBody) (text : Text) → AreTexts j → entities_in j ≡ Some bodies → IsUtf8 text
+    → encode_utf8_all (entities_written j) ≡ text → IsBody text bodies
 entities_text (array js) bodies text a e u is =
     let all = bodies_spelled js bodies a e in
     let tree = Apply MakeSet (trees all.items) in
     let reads : IsTextOf text tree =
     λ names calls.
     let spelled = list_spelled names (bodies_written js) all.items (all.spells names calls) in
-    let x = spelled.reads [] [] tt (none nothing) in
-    (x.0, subst (λ cs. AreTokens cs x.0) (append-nil (entities_written (array js)) ∙ chars_from_encodes (entities_written (array js)) text u is) x.1, (x.2 (height tree) (omega arith), spelled.slots))
+    let x = spelled.reads [] [] tt (none nothing) in (
+      x.0,
+      subst (λ cs. AreTokens cs x.0) (append-nil (entities_written (array js)) ∙ chars_from_encodes (entities_written (array js)) text u is) x.1,
+      (x.2 (height tree) (omega arith), spelled.slots),
+    )
     in
     (tree, reads, all.reads)
 entities_text null bodies text a e u is = absurd (cc e)

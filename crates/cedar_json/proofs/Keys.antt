@@ -42,18 +42,19 @@ all_apart k (l ∷ ks) h = by (λ f. all_apart k ks f) (is_text k l) refl h
     by others true e h = absurd (true≢false h)
     by others false e h = All-cons (λ m. k ≢ m) l ks (λ same. true≢false (sym ((bytes_eq-Decides k l).1 same) ∙ e)) (others h)
 
-not_true : (b : Bool) → not b ≡ true → b ≡ false
+pub not_true : (b : Bool) → not b ≡ true → b ≡ false
 not_true true h = absurd (true≢false (sym h))
 not_true false h = refl
 
-keys_apart : (ks : List Text) → are_distinct ks ≡ true → AreDistinct ks
+pub keys_apart : (ks : List Text) → are_distinct ks ≡ true → AreDistinct ks
 keys_apart [] h = λ i j d lt within. absurd (omega arith)
 keys_apart (k ∷ ks) h =
     let both = and_parts (not (is_among k ks)) (are_distinct ks) h in
     AllPairs-cons (λ a b. a ≢ b) k ks (all_apart k ks (not_true (is_among k ks) both.0)) (keys_apart ks both.1)
 
 -- the entries have the members' keys
-keys_by : (k : Text) (ms : Members) (es : List (Keyed Tree)) (o : Option Tree) (os : Option (List (Keyed Tree))) → ((fs : List (Keyed Tree)) → os ≡ Some fs → keys fs ≡ strict.keys ms) → entry_with k o os ≡ Some es → keys es ≡ k ∷ strict.keys ms
+keys_by : (k : Text) (ms : Members) (es : List (Keyed Tree)) (o : Option Tree) (os : Option (List (Keyed Tree)))
+    → ((fs : List (Keyed Tree)) → os ≡ Some fs → keys fs ≡ strict.keys ms) → entry_with k o os ≡ Some es → keys es ≡ k ∷ strict.keys ms
 keys_by k ms es (Some t) (Some fs) others e = let same : (k, t) ∷ fs ≡ es = cc e in ap keys (sym same) ∙ ap (λ x. k ∷ x) (others fs refl)
 keys_by k ms es (Some t) None others e = absurd (cc e)
 keys_by k ms es None os others e = absurd (cc e)
@@ -78,13 +79,14 @@ entries_distinct ms t e = by (entries ms) refl e
     by None f e = absurd (cc e)
     by (Some es) f e = subst AreDistinct (entry_keys ms es f) (keys_apart (keys es) (record_distinct es t e))
 
-one_apart : (k : Text) → AreDistinct (k ∷ [])
+pub one_apart : (k : Text) → AreDistinct (k ∷ [])
 one_apart k i j d lt within = absurd (omega arith)
 
 -- two keys of which the first is one text and the second another
 two_apart : (k l : Text) (b : Bool) → is_text k l ≡ b → b ≡ false → AreDistinct (k ∷ l ∷ [])
 two_apart k l b e f =
-    AllPairs-cons (λ x y. x ≢ y) k (l ∷ []) (All-cons (λ y. k ≢ y) l [] (λ same. true≢false (sym ((bytes_eq-Decides k l).1 same) ∙ e ∙ f)) (All-nil (λ y. k ≢ y))) (one_apart l)
+    AllPairs-cons (λ x y. x ≢ y) k (l ∷ [])
+    (All-cons (λ y. k ≢ y) l [] (λ same. true≢false (sym ((bytes_eq-Decides k l).1 same) ∙ e ∙ f)) (All-nil (λ y. k ≢ y))) (one_apart l)
 
 same_text : (k t : Text) → is_text k t ≡ true → k ≡ t
 same_text k t e = (bytes_eq-Decides k t).0 e
@@ -94,7 +96,8 @@ named_apart k l s t other e f =
     let differ : is_text k l ≡ false = ap (λ x. is_text x l) (same_text k s e) ∙ ap (λ x. is_text s x) (same_text l t f) ∙ other in
     two_apart k l (is_text k l) refl differ
 
-uid_apart : (k s l t : Text) (u : Uid) (a b c d : Bool) → is_text k (codes "type") ≡ a → is_text l (codes "id") ≡ b → is_text k (codes "id") ≡ c → is_text l (codes "type") ≡ d
+uid_apart : (k s l t : Text) (u : Uid) (a b c d : Bool) → is_text k (codes "type") ≡ a → is_text l (codes "id") ≡ b → is_text k (codes "id") ≡ c
+    → is_text l (codes "type") ≡ d
     → cond (a && b) (uid_with s t) (cond (c && d) (uid_with t s) None) ≡ Some u → AreDistinct (k ∷ l ∷ [])
 uid_apart k s l t u true true c d e f g h is = named_apart k l (codes "type") (codes "id") refl e f
 uid_apart k s l t u true false true true e f g h is = named_apart k l (codes "id") (codes "type") refl g h
@@ -104,14 +107,14 @@ uid_apart k s l t u false b true true e f g h is = named_apart k l (codes "id") 
 uid_apart k s l t u false b true false e f g h is = absurd (cc is)
 uid_apart k s l t u false b false d e f g h is = absurd (cc is)
 
-uid_unique : (j : Json) (u : Uid) → uid_in j ≡ Some u → HasUniqueKeys j
+pub uid_unique : (j : Json) (u : Uid) → uid_in j ≡ Some u → HasUniqueKeys j
 uid_unique (object (member k (string s) (member l (string t) no_members))) u e = (
   uid_apart k s l t u (is_text k (codes "type")) (is_text l (codes "id")) (is_text k (codes "id")) (is_text l (codes "type")) refl refl refl refl e,
   (tt, (tt, tt)),
 )
 uid_unique j u e = absurd (cc e)
 
-option_is : {A B : Type 0} (f : A → B) (o : Option A) (b : B) → option_map f o ≡ Some b → (a : A) × (o ≡ Some a)
+pub option_is : {A B : Type 0} (f : A → B) (o : Option A) (b : B) → option_map f o ≡ Some b → (a : A) × (o ≡ Some a)
 option_is f None b e = absurd (cc e)
 option_is f (Some a) b e = (a, refl)
 
@@ -119,7 +122,8 @@ option_is f (Some a) b e = (a, refl)
 argument_key : (key : Text) (o : Option Tree) (os : Option (List Tree)) (ts : List Tree) → arguments key o os ≡ Some ts → is_text key (codes "fn") ≡ false
 argument_key key o os ts e = by (is_text key (codes "arg")) (is_text key (codes "args")) refl refl e
   where
-    by : (a b : Bool) → is_text key (codes "arg") ≡ a → is_text key (codes "args") ≡ b → cond a (option_map (λ t. t ∷ []) o) (cond b os None) ≡ Some ts → is_text key (codes "fn") ≡ false
+    by : (a b : Bool) → is_text key (codes "arg") ≡ a → is_text key (codes "args") ≡ b → cond a (option_map (λ t. t ∷ []) o) (cond b os None) ≡ Some ts
+        → is_text key (codes "fn") ≡ false
     by true b f g e = ap (λ x. is_text x (codes "fn")) (same_text key (codes "arg") f)
     by false true f g e = ap (λ x. is_text x (codes "fn")) (same_text key (codes "args") g)
     by false false f g e = absurd (cc e)
@@ -129,7 +133,8 @@ call_parts (Some p) (Some ts) t e = (ts, refl)
 call_parts (Some p) None t e = absurd (cc e)
 call_parts None os t e = absurd (cc e)
 
-function_apart : (k l : Text) (o : Option Tree) (os : Option (List Tree)) (ts : List Tree) → is_text k (codes "fn") ≡ true → arguments l o os ≡ Some ts → AreDistinct (k ∷ l ∷ [])
+function_apart : (k l : Text) (o : Option Tree) (os : Option (List Tree)) (ts : List Tree) → is_text k (codes "fn") ≡ true → arguments l o os ≡ Some ts
+    → AreDistinct (k ∷ l ∷ [])
 function_apart k l o os ts e f =
     let other = argument_key l o os ts f in
     let differ : is_text k l ≡ false = ap (λ x. is_text x l) (same_text k (codes "fn") e) ∙ apart_from (codes "fn") l other in
@@ -142,16 +147,18 @@ function_apart k l o os ts e f =
         by true g = absurd (true≢false (sym ((bytes_eq-Decides b a).1 (sym (same_text a b g))) ∙ h))
         by false g = refl
 
-then_is : {A B : Type 0} (o : Option A) (f : A → Option B) (b : B) → and_then o f ≡ Some b → (a : A) × (o ≡ Some a)
+pub then_is : {A B : Type 0} (o : Option A) (f : A → Option B) (b : B) → and_then o f ≡ Some b → (a : A) × (o ≡ Some a)
 then_is None f b e = absurd (cc e)
 then_is (Some a) f b e = (a, refl)
 
-read_is : (o : Option Tree) (os : Option (List Tree)) (ts : List Tree) → read_with o os ≡ Some ts → (t : Tree) × (o ≡ Some t) × (us : List Tree) × (os ≡ Some us)
+read_is : (o : Option Tree) (os : Option (List Tree)) (ts : List Tree) → read_with o os ≡ Some ts
+    → (t : Tree) × (o ≡ Some t) × (us : List Tree) × (os ≡ Some us)
 read_is (Some t) (Some us) ts e = (t, refl, us, refl)
 read_is (Some t) None ts e = absurd (cc e)
 read_is None os ts e = absurd (cc e)
 
-entry_is : (k : Text) (o : Option Tree) (os : Option (List (Keyed Tree))) (es : List (Keyed Tree)) → entry_with k o os ≡ Some es → (t : Tree) × (o ≡ Some t) × (fs : List (Keyed Tree)) × (os ≡ Some fs)
+entry_is : (k : Text) (o : Option Tree) (os : Option (List (Keyed Tree))) (es : List (Keyed Tree)) → entry_with k o os ≡ Some es
+    → (t : Tree) × (o ≡ Some t) × (fs : List (Keyed Tree)) × (os ≡ Some fs)
 entry_is k (Some t) (Some fs) es e = (t, refl, fs, refl)
 entry_is k (Some t) None es e = absurd (cc e)
 entry_is k None os es e = absurd (cc e)
@@ -159,7 +166,8 @@ entry_is k None os es e = absurd (cc e)
 -- the one value of an object
 single_unique : (k : Text) (j : Json) (t : Tree) (a b : Bool) → ((u : Uid) → uid_in j ≡ Some u → HasUniqueKeys j) → (call_in j ≡ Some t → HasUniqueKeys j)
     → (and_then (entry_with k (datum j) (Some [])) record_with ≡ Some t → HasUniqueKeys j)
-    → cond a (option_map (λ u. Lit (Entity u)) (uid_in j)) (cond b (call_in j) (and_then (entry_with k (datum j) (Some [])) record_with)) ≡ Some t → HasUniqueKeys j
+    → cond a (option_map (λ u. Lit (Entity u)) (uid_in j)) (cond b (call_in j) (and_then (entry_with k (datum j) (Some [])) record_with)) ≡ Some t
+    → HasUniqueKeys j
 single_unique k j t true b f g h e = let x = option_is (λ u. Lit (Entity u)) (uid_in j) t e in f x.0 x.1
 single_unique k j t false true f g h e = g e
 single_unique k j t false false f g h e = h e
@@ -173,14 +181,16 @@ call_named : (p : Option Name) (os : Option (List Tree)) (t : Tree) → call_wit
 call_named (Some p) os t e = (p, refl)
 call_named None os t e = absurd (cc e)
 
-argument_unique : (key : Text) (j : Json) (ts : List Tree) → ((u : Tree) → datum j ≡ Some u → HasUniqueKeys j) → ((us : List Tree) → items_in j ≡ Some us → HasUniqueKeys j)
+argument_unique : (key : Text) (j : Json) (ts : List Tree) → ((u : Tree) → datum j ≡ Some u → HasUniqueKeys j)
+    → ((us : List Tree) → items_in j ≡ Some us → HasUniqueKeys j)
     → (a b : Bool) → cond a (option_map (λ t. t ∷ []) (datum j)) (cond b (items_in j) None) ≡ Some ts → HasUniqueKeys j
 argument_unique key j ts f g true b e = let x = option_is (λ t. t ∷ []) (datum j) ts e in f x.0 x.1
 argument_unique key j ts f g false true e = g ts e
 argument_unique key j ts f g false false e = absurd (cc e)
 
 flipped : (k l : Text) → AreDistinct (k ∷ l ∷ []) → AreDistinct (l ∷ k ∷ [])
-flipped k l apart = AllPairs-cons (λ x y. x ≢ y) l (k ∷ []) (All-cons (λ y. l ≢ y) k [] (λ same. apart 0 1 k (omega arith) (omega arith) (sym same)) (All-nil (λ y. l ≢ y))) (one_apart k)
+flipped k l apart = AllPairs-cons (λ x y. x ≢ y) l (k ∷ [])
+    (All-cons (λ y. l ≢ y) k [] (λ same. apart 0 1 k (omega arith) (omega arith) (sym same)) (All-nil (λ y. l ≢ y))) (one_apart k)
 
 calls_apart : (k l : Text) (a b : Json) (t : Tree) (p q : Bool) → is_text k (codes "fn") ≡ p → is_text l (codes "fn") ≡ q
     → ((u : Tree) → datum a ≡ Some u → HasUniqueKeys a) → ((us : List Tree) → items_in a ≡ Some us → HasUniqueKeys a)
@@ -209,8 +219,14 @@ mutual
   datum_unique (string s) t e = tt
   datum_unique (array js) t e = let x = option_is _ (data_of js) t e in data_unique js x.0 x.1
   datum_unique (object no_members) t e = ((λ i k d lt within. absurd (omega arith)), tt)
-  datum_unique (object (member k j no_members)) t e =
-      (one_apart k, (single_unique k j t (is_text k (codes "__entity")) (is_text k (codes "__extn")) (λ u f. uid_unique j u f) (λ f. call_unique j t f) (λ f. let x = then_is (entries (member k j no_members)) record_with t f in (entries_unique (member k j no_members) x.0 x.1).0) e, tt))
+  datum_unique (object (member k j no_members)) t e = (
+    one_apart k,
+    (
+      single_unique k j t (is_text k (codes "__entity")) (is_text k (codes "__extn")) (λ u f. uid_unique j u f) (λ f. call_unique j t f)
+          (λ f. let x = then_is (entries (member k j no_members)) record_with t f in (entries_unique (member k j no_members) x.0 x.1).0) e,
+      tt,
+    ),
+  )
   datum_unique (object (member k j (member l i ms))) t e =
       let x = then_is (entries (member k j (member l i ms))) record_with t e in
       (entries_distinct (member k j (member l i ms)) t e, entries_unique (member k j (member l i ms)) x.0 x.1)
@@ -225,7 +241,8 @@ mutual
 
   call_unique : (j : Json) (t : Tree) → call_in j ≡ Some t → HasUniqueKeys j
   call_unique (object (member k a (member l b no_members))) t e =
-      calls_apart k l a b t (is_text k (codes "fn")) (is_text l (codes "fn")) refl refl (λ u f. datum_unique a u f) (λ us f. items_unique a us f) (λ u f. datum_unique b u f) (λ us f. items_unique b us f) e
+      calls_apart k l a b t (is_text k (codes "fn")) (is_text l (codes "fn")) refl refl (λ u f. datum_unique a u f) (λ us f. items_unique a us f)
+      (λ u f. datum_unique b u f) (λ us f. items_unique b us f) e
   call_unique j t e = absurd (cc e)
 
   items_unique : (j : Json) (ts : List Tree) → items_in j ≡ Some ts → HasUniqueKeys j

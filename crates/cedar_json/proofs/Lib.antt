@@ -7,3 +7,10 @@ pub mod ReadBack
 pub mod Keys
 pub mod EntityTexts
 pub mod QuestionTexts
+pub mod Appending
+pub mod Taken
+pub mod Numerals
+pub mod Spellings
+pub mod Sound
+pub mod Unique
+pub mod Saying

@@ -42,30 +42,47 @@ pub record Spells (names : Names) (cs : List ℕ) (t : Tree) : Type 0 where
   pub reads : (rest : List ℕ) (us : List Token) → Stops is_in_word rest → AreTokens rest us → IsRead names (cs ++ rest) t us
   pub slots : tree_slots t ≡ []
 
-pub by_level : (names : Names) (t : Tree) (ts us : List Token) → 0 < height t → ((n : ℕ) → height t ≤ suc n → Unary (inner names n) ts t us) → (n : ℕ) → height t ≤ n → Within names n ts t us
+pub by_level : (names : Names) (t : Tree) (ts us : List Token) → 0 < height t → ((n : ℕ) → height t ≤ suc n → Unary (inner names n) ts t us) → (n : ℕ)
+    → height t ≤ n → Within names n ts t us
 by_level names t ts us some f zero low = absurd (omega arith)
 by_level names t ts us some f (suc n) low = of_unary (f n low)
 
 module _ (names : Names) where
-  pub literal_read : (l : Literal) (ts us : List Token) → ((n : ℕ) → Unary (inner names n) ts (Lit l) us) → (n : ℕ) → height (Lit l) ≤ n → Within names n ts (Lit l) us
+  pub literal_read : (l : Literal) (ts us : List Token) → ((n : ℕ) → Unary (inner names n) ts (Lit l) us) → (n : ℕ) → height (Lit l) ≤ n
+      → Within names n ts (Lit l) us
   literal_read l ts us f = by_level names (Lit l) ts us (omega arith) (λ n low. f n)
 
   pub boolean_spelled : (b : Bool) → Spells names (cond b (codes "true") (codes "false")) (truth b)
   boolean_spelled true =
       record {
-        reads = λ rest us stop are. (word token.True ∷ us, in_front (word token.True) _ rest us (word_front 116 (codes "rue") rest refl refl stop) are, literal_read _ _ us (λ n. of_primary true_is));
+        reads = λ rest us stop are. (
+          word token.True ∷ us,
+          in_front (word token.True) _ rest us
+              (word_front 116 (codes "rue") rest refl refl stop) are,
+          literal_read _ _ us (λ n. of_primary true_is),
+        );
         slots = refl;
       }
   boolean_spelled false =
       record {
-        reads = λ rest us stop are. (word token.False ∷ us, in_front (word token.False) _ rest us (word_front 102 (codes "alse") rest refl refl stop) are, literal_read _ _ us (λ n. of_primary false_is));
+        reads = λ rest us stop are. (
+          word token.False ∷ us,
+          in_front (word token.False) _ rest us
+              (word_front 102 (codes "alse") rest refl refl stop) are,
+          literal_read _ _ us (λ n. of_primary false_is),
+        );
         slots = refl;
       }
 
   pub string_spelled : (s : Text) → IsUtf8 s → Spells names (quoted s) (Lit (String s))
   string_spelled s u =
       record {
-        reads = λ rest us stop are. (text (escaped (chars s)) ∷ us, in_front _ _ rest us (quoted_front s rest) are, literal_read _ _ us (λ n. of_primary (text_is (quoted_string s u))));
+        reads = λ rest us stop are. (
+          text (escaped (chars s)) ∷ us,
+          in_front _ _ rest us (quoted_front s rest) are,
+          literal_read _ _ us
+              (λ n. of_primary (text_is (quoted_string s u))),
+        );
         slots = refl;
       }
 
@@ -113,7 +130,8 @@ module _ (names : Names) where
         spells = record {
           reads = λ rest us stop are. (
             mark token.Minus ∷ number v ∷ us,
-            in_front _ _ (c ∷ (cs ++ rest)) (number v ∷ us) (minus_sign (c ∷ (cs ++ rest))) (in_front _ _ rest us (digits_front c cs rest are_digits_.first are_digits_.others stop) are),
+            in_front _ _ (c ∷ (cs ++ rest)) (number v ∷ us) (minus_sign (c ∷ (cs ++ rest)))
+                (in_front _ _ rest us (digits_front c cs rest are_digits_.first are_digits_.others stop) are),
             literal_read _ _ us (λ n. negative_is 0 v (omega arith) small (a_sign no_sign)),
           );
           slots = refl;
@@ -121,14 +139,18 @@ module _ (names : Names) where
         small = all_weaker is_ascii_digit is_small digit_small (c ∷ cs) (rw (are_digits_.first) (are_digits_.others));
       }
 
-  positive_by : (c : ℕ) (cs : Text) (t : Tree) (b : Bool) → is_at_most 9223372036854775807 (c ∷ cs) ≡ b → cond b (Some (long (pos (digits_value 10 (c ∷ cs))))) None ≡ Some t → SpellsSmall (c ∷ cs) t
-  positive_by c cs t true h e = let same : long (pos (digits_value 10 (c ∷ cs))) ≡ t = cc e in subst (SpellsSmall (c ∷ cs)) same (positive_is c cs (digits_are 9223372036854775807 c cs h))
+  positive_by : (c : ℕ) (cs : Text) (t : Tree) (b : Bool) → is_at_most 9223372036854775807 (c ∷ cs) ≡ b
+      → cond b (Some (long (pos (digits_value 10 (c ∷ cs))))) None ≡ Some t → SpellsSmall (c ∷ cs) t
+  positive_by c cs t true h e = let same : long (pos (digits_value 10 (c ∷ cs))) ≡ t = cc e in subst (SpellsSmall (c ∷ cs)) same
+      (positive_is c cs (digits_are 9223372036854775807 c cs h))
   positive_by c cs t false h e = absurd (cc e)
 
-  negative_by : (ds : Text) (t : Tree) (b : Bool) → is_at_most 9223372036854775808 ds ≡ b → cond b (Some (long (neg_ℤ (pos (digits_value 10 ds))))) None ≡ Some t → SpellsSmall (minus ∷ ds) t
+  negative_by : (ds : Text) (t : Tree) (b : Bool) → is_at_most 9223372036854775808 ds ≡ b
+      → cond b (Some (long (neg_ℤ (pos (digits_value 10 ds))))) None ≡ Some t → SpellsSmall (minus ∷ ds) t
   negative_by [] t true h e = absurd (cc h)
   negative_by (c ∷ cs) t true h e =
-      let same : long (neg_ℤ (pos (digits_value 10 (c ∷ cs)))) ≡ t = cc e in subst (SpellsSmall (minus ∷ c ∷ cs)) same (negative_spelled c cs (digits_are 9223372036854775808 c cs h))
+      let same : long (neg_ℤ (pos (digits_value 10 (c ∷ cs)))) ≡ t = cc e in subst (SpellsSmall (minus ∷ c ∷ cs)) same
+      (negative_spelled c cs (digits_are 9223372036854775808 c cs h))
   negative_by ds t false h e = absurd (cc e)
 
   long_by : (c : ℕ) (cs : Text) (t : Tree) (b : Bool) → (c == minus) ≡ b → cond b (negative cs) (positive (c ∷ cs)) ≡ Some t → SpellsSmall (c ∷ cs) t
@@ -144,15 +166,18 @@ module _ (names : Names) where
 
   -- ---- entities
 
-  pub uid_spelled : (type id : Text) (p : Name) → IsUtf8 type → IsUtf8 id → IsNamed type p → Spells names (uid_text type id) (Lit (Entity (record { type_name = p; id = id })))
+  pub uid_spelled : (type id : Text) (p : Name) → IsUtf8 type → IsUtf8 id → IsNamed type p
+      → Spells names (uid_text type id) (Lit (Entity (record { type_name = p; id = id })))
   uid_spelled type id p u v named =
       let whole : (rest : List ℕ) → uid_text type id ++ rest ≡ path p ++ (colon ∷ colon ∷ (quoted id ++ rest)) =
       λ rest. append_assoc (chars type) (colon ∷ colon ∷ quoted id) rest ∙ ap (λ x. x ++ (colon ∷ colon ∷ (quoted id ++ rest))) (named_chars type p u named)
       in
       record {
         reads = λ rest us stop are.
-            let behind = in_front _ _ (quoted id ++ rest) (text (escaped (chars id)) ∷ us) (two_colons (quoted id ++ rest)) (in_front _ _ rest us (quoted_front id rest) are) in
-            let x = path_read p (colon ∷ colon ∷ (quoted id ++ rest)) (mark token.ColonColon ∷ text (escaped (chars id)) ∷ us) named.free named.some refl behind in (
+            let behind = in_front _ _ (quoted id ++ rest) (text (escaped (chars id)) ∷ us) (two_colons (quoted id ++ rest))
+            (in_front _ _ rest us (quoted_front id rest) are) in
+            let x = path_read p (colon ∷ colon ∷ (quoted id ++ rest))
+            (mark token.ColonColon ∷ text (escaped (chars id)) ∷ us) named.free named.some refl behind in (
               x.0,
               subst (λ y. AreTokens y x.0) (sym (whole rest)) x.1,
               literal_read _ _ us (λ n. of_primary (entity_is (entity p (escaped (chars id)) x.2 (quoted_string id v)))),
@@ -163,7 +188,8 @@ module _ (names : Names) where
   pub uid_with_spelled : (type id : Text) (w : Uid) → IsUtf8 type → IsUtf8 id → uid_with type id ≡ Some w → Spells names (uid_text type id) (Lit (Entity w))
   uid_with_spelled type id w u v e = by (name_spelled type) refl e
     where
-      by : (o : Option Name) → name_spelled type ≡ o → option_map (λ p. record { type_name = p; id = id }) o ≡ Some w → Spells names (uid_text type id) (Lit (Entity w))
+      by : (o : Option Name) → name_spelled type ≡ o → option_map (λ p. record { type_name = p; id = id }) o ≡ Some w
+          → Spells names (uid_text type id) (Lit (Entity w))
       by None f e = absurd (cc e)
       by (Some p) f e =
           let same : record { type_name = p; id = id } ≡ w = cc e in

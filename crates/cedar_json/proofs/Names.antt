@@ -124,7 +124,8 @@ is_named s p e = by (list_all is_free_word (words_between s)) refl e
 abbrev pub PathRead : List ℕ → Name → List Token → Type 0
 PathRead cs p us = (ts : List Token) × AreTokens cs ts × Ids token.ColonColon ts p us
 
-pub path_read : (p : Name) (rest : List ℕ) (us : List Token) → list_all is_free_word p ≡ true → p ≢ [] → Stops is_in_word rest → AreTokens rest us → PathRead (path p ++ rest) p us
+pub path_read : (p : Name) (rest : List ℕ) (us : List Token) → list_all is_free_word p ≡ true → p ≢ [] → Stops is_in_word rest → AreTokens rest us
+    → PathRead (path p ++ rest) p us
 path_read [] rest us h some stop are = absurd (some refl)
 path_read ([] ∷ ws) rest us h some stop are = absurd (cc h)
 path_read ((c ∷ cs) ∷ []) rest us h some stop are =
@@ -153,7 +154,8 @@ path_small ((c ∷ cs) ∷ []) h =
 path_small ((c ∷ cs) ∷ v ∷ vs) h =
     let both = and_parts (is_free_word (c ∷ cs)) (list_all is_free_word (v ∷ vs)) h in
     let w = free_word c cs both.0 in
-    all_append is_small (c ∷ cs) (colon ∷ colon ∷ path (v ∷ vs)) (all_weaker is_in_word is_small word_small (c ∷ cs) (rw (first_in_word c w.first) w.others)) (path_small (v ∷ vs) both.1)
+    all_append is_small (c ∷ cs) (colon ∷ colon ∷ path (v ∷ vs)) (all_weaker is_in_word is_small word_small (c ∷ cs) (rw (first_in_word c w.first) w.others))
+    (path_small (v ∷ vs) both.1)
 
 -- the characters of a text that is a name's path
 pub named_chars : (s : Text) (p : Name) → IsUtf8 s → IsNamed s p → chars s ≡ path p

@@ -97,7 +97,8 @@ record IsPath (x : Name × List ℕ) : Type 0 where
   pub free : list_all is_free_word x.0 ≡ true
   pub raw : IsRaw x.1
 
-longer_path : (w : Word) (o : Option Text) (q : Option (Name × List ℕ)) (x : Name × List ℕ) → IsWord w → id_of w ≡ o → ((y : Name × List ℕ) → q ≡ Some y → IsPath y) → longer o q ≡ Some x → IsPath x × (x.0 ≢ [])
+longer_path : (w : Word) (o : Option Text) (q : Option (Name × List ℕ)) (x : Name × List ℕ) → IsWord w → id_of w ≡ o
+    → ((y : Name × List ℕ) → q ≡ Some y → IsPath y) → longer o q ≡ Some x → IsPath x × (x.0 ≢ [])
 longer_path w None q x is e f g = absurd (cc g)
 longer_path w (Some s) None x is e f g = absurd (cc g)
 longer_path w (Some s) (Some y) x is e f g =
@@ -114,11 +115,13 @@ string_path (text raw ∷ t ∷ ts) y a e = absurd (cc e)
 string_path (slot w ∷ ts) y a e = absurd (cc e)
 string_path (mark m ∷ ts) y a e = absurd (cc e)
 
-either_path : (o q : Option (Name × List ℕ)) (y : Name × List ℕ) → ((z : Name × List ℕ) → o ≡ Some z → IsPath z) → ((z : Name × List ℕ) → q ≡ Some z → IsPath z) → or_else o q ≡ Some y → IsPath y
+either_path : (o q : Option (Name × List ℕ)) (y : Name × List ℕ) → ((z : Name × List ℕ) → o ≡ Some z → IsPath z)
+    → ((z : Name × List ℕ) → q ≡ Some z → IsPath z) → or_else o q ≡ Some y → IsPath y
 either_path (Some z) q y f g e = f y e
 either_path None q y f g e = g y e
 
-step_path : (w : Word) (b : Bool) (q : Option (Name × List ℕ)) (x : Name × List ℕ) → IsWord w → ((y : Name × List ℕ) → q ≡ Some y → IsPath y) → cond b (longer (id_of w) q) None ≡ Some x → IsPath x × (x.0 ≢ [])
+step_path : (w : Word) (b : Bool) (q : Option (Name × List ℕ)) (x : Name × List ℕ) → IsWord w → ((y : Name × List ℕ) → q ≡ Some y → IsPath y)
+    → cond b (longer (id_of w) q) None ≡ Some x → IsPath x × (x.0 ≢ [])
 step_path w true q x is f e = longer_path w (id_of w) q x is refl f e
 step_path w false q x is f e = absurd (cc e)
 
@@ -126,7 +129,8 @@ is_path : (ts : List Token) (x : Name × List ℕ) → AreOfText ts → path_in 
 is_path [] x a e = absurd (cc e)
 is_path (t ∷ []) x a e = absurd (cc e)
 is_path (word w ∷ t ∷ ts) x a e =
-    step_path w (is_mark ColonColon t) (or_else (string_alone ts) (path_in ts)) x a.0 (λ y f. either_path (string_alone ts) (path_in ts) y (λ z g. string_path ts z a.1.1 g) (λ z g. (is_path ts z a.1.1 g).0) f) e
+    step_path w (is_mark ColonColon t) (or_else (string_alone ts) (path_in ts)) x a.0
+    (λ y f. either_path (string_alone ts) (path_in ts) y (λ z g. string_path ts z a.1.1 g) (λ z g. (is_path ts z a.1.1 g).0) f) e
 is_path (token.number n ∷ t ∷ ts) x a e = absurd (cc e)
 is_path (text raw ∷ t ∷ ts) x a e = absurd (cc e)
 is_path (slot w ∷ t ∷ ts) x a e = absurd (cc e)
@@ -134,33 +138,40 @@ is_path (mark m ∷ t ∷ ts) x a e = absurd (cc e)
 
 -- ---- entities
 
-path_spelled : (names : Names) (x : Name × List ℕ) (s : Text) → IsPath x → x.0 ≢ [] → string_of x.1 ≡ Some s → Spells names (told_written (Some x)) (Lit (Entity (record { type_name = x.0; id = s })))
+path_spelled : (names : Names) (x : Name × List ℕ) (s : Text) → IsPath x → x.0 ≢ [] → string_of x.1 ≡ Some s
+    → Spells names (told_written (Some x)) (Lit (Entity (record { type_name = x.0; id = s })))
 path_spelled names x s is some e =
     let raw = x.1 in
-    let strung : (rest : List ℕ) → Front (quote ∷ (raw ++ quote ∷ rest)) (text raw) rest = λ rest. is_text quote refl (inside_move is.raw.before raw is.raw.after rest is.raw.inside) in
+    let strung : (rest : List ℕ) → Front (quote ∷ (raw ++ quote ∷ rest)) (text raw) rest = λ rest. is_text quote refl
+    (inside_move is.raw.before raw is.raw.after rest is.raw.inside) in
     let whole : (rest : List ℕ) → told_written (Some x) ++ rest ≡ path x.0 ++ colon ∷ colon ∷ quote ∷ (raw ++ quote ∷ rest) =
-    λ rest. append_assoc (path x.0) (colon ∷ colon ∷ quote ∷ (raw ++ quote ∷ [])) rest ∙ ap (λ y. path x.0 ++ colon ∷ colon ∷ quote ∷ y) (append_assoc raw (quote ∷ []) rest)
+    λ rest. append_assoc (path x.0) (colon ∷ colon ∷ quote ∷ (raw ++ quote ∷ [])) rest
+    ∙ ap (λ y. path x.0 ++ colon ∷ colon ∷ quote ∷ y) (append_assoc raw (quote ∷ []) rest)
     in
     record {
       reads = λ rest us stop are.
-          let behind = in_front _ _ (quote ∷ (raw ++ quote ∷ rest)) (text raw ∷ us) (two_colons (quote ∷ (raw ++ quote ∷ rest))) (in_front _ _ rest us (strung rest) are) in
+          let behind = in_front _ _ (quote ∷ (raw ++ quote ∷ rest)) (text raw ∷ us) (two_colons (quote ∷ (raw ++ quote ∷ rest)))
+          (in_front _ _ rest us (strung rest) are) in
           let y = path_read x.0 (colon ∷ colon ∷ quote ∷ (raw ++ quote ∷ rest)) (mark ColonColon ∷ text raw ∷ us) is.free some refl behind in
           (y.0, subst (λ z. AreTokens z y.0) (sym (whole rest)) y.1, literal_read names _ _ us (λ n. of_primary (entity_is (entity x.0 raw y.2 e))));
       slots = refl;
     }
 
-told_spelled : (names : Names) (o : Option (Name × List ℕ)) (u : Uid) → ((x : Name × List ℕ) → o ≡ Some x → IsPath x × (x.0 ≢ [])) → uid_told o ≡ Some u → Spells names (told_written o) (Lit (Entity u))
+told_spelled : (names : Names) (o : Option (Name × List ℕ)) (u : Uid) → ((x : Name × List ℕ) → o ≡ Some x → IsPath x × (x.0 ≢ [])) → uid_told o ≡ Some u
+    → Spells names (told_written o) (Lit (Entity u))
 told_spelled names None u f e = absurd (cc e)
 told_spelled names (Some x) u f e = by (string_of x.1) refl e
   where
-    by : (o : Option Text) → string_of x.1 ≡ o → option_map (λ s. record { type_name = x.0; id = s }) o ≡ Some u → Spells names (told_written (Some x)) (Lit (Entity u))
+    by : (o : Option Text) → string_of x.1 ≡ o → option_map (λ s. record { type_name = x.0; id = s }) o ≡ Some u
+        → Spells names (told_written (Some x)) (Lit (Entity u))
     by None g e = absurd (cc e)
     by (Some s) g e =
         let same : record { type_name = x.0; id = s } ≡ u = cc e in
         let is = f x refl in
         subst (λ v. Spells names (told_written (Some x)) (Lit (Entity v))) same (path_spelled names x s is.0 is.1 g)
 
-read_spelled : (names : Names) (s : Text) (u : Uid) (o : Option (List Token)) → tokens_of (chars s) ≡ o → and_then o (λ ts. uid_told (path_in ts)) ≡ Some u → Spells names (read_written o) (Lit (Entity u))
+read_spelled : (names : Names) (s : Text) (u : Uid) (o : Option (List Token)) → tokens_of (chars s) ≡ o → and_then o (λ ts. uid_told (path_in ts)) ≡ Some u
+    → Spells names (read_written o) (Lit (Entity u))
 read_spelled names s u None f e = absurd (cc e)
 read_spelled names s u (Some ts) f e = told_spelled names (path_in ts) u (λ x g. is_path ts x (are_of_text (chars s) ts ((reads_tokens (chars s) ts).1 f)) g) e
 
@@ -193,7 +204,8 @@ record SpellsContext (cs : List ℕ) (context : Option Entries) : Type 0 where
   pub spells : (names : Names) → Calls names tree → Spells names cs tree
   pub entries : Some (entries_of tree) ≡ Some context
 
-context_by : (j : Json) (q : Option Entries) (o : Option Tree) → AreTexts j → datum j ≡ o → option_map or_empty (option_map (λ e. Some e) (and_then o entries_of)) ≡ Some q → SpellsContext (written j) q
+context_by : (j : Json) (q : Option Entries) (o : Option Tree) → AreTexts j → datum j ≡ o
+    → option_map or_empty (option_map (λ e. Some e) (and_then o entries_of)) ≡ Some q → SpellsContext (written j) q
 context_by j q None a f e = absurd (cc e)
 context_by j q (Some t) a f e = by (entries_of t) refl e
   where
@@ -238,9 +250,11 @@ record SpellsQuestion (cs : List ℕ) (question : Question) : Type 0 where
   pub reads : ask_body tree ≡ Some question
 
 abbrev four : List ℕ → List ℕ → List ℕ → List ℕ → List ℕ
-four p a r c = 123 ∷ entry_written (codes "principal") p (entry_written (codes "action") a (entry_written (codes "resource") r (entry_written (codes "context") c (125 ∷ []))))
+four p a r c = 123 ∷ entry_written (codes "principal") p
+    (entry_written (codes "action") a (entry_written (codes "resource") r (entry_written (codes "context") c (125 ∷ []))))
 
-parts_spelled : (names : Names) (p a r : Uid) (c : Tree) (cs ds es fs : List ℕ) → Spells names cs (Lit (Entity p)) → Spells names ds (Lit (Entity a)) → Spells names es (Lit (Entity r)) → (Calls names c → Spells names fs c)
+parts_spelled : (names : Names) (p a r : Uid) (c : Tree) (cs ds es fs : List ℕ) → Spells names cs (Lit (Entity p)) → Spells names ds (Lit (Entity a))
+    → Spells names es (Lit (Entity r)) → (Calls names c → Spells names fs c)
     → Calls names (record_of (parts p a r c)) → Spells names (four cs ds es fs) (record_of (parts p a r c))
 parts_spelled names p a r c cs ds es fs x y z w h =
     let all : AllCall names (values (parts p a r c)) = calls_unsorted (is_function names) (parts p a r c) h in
@@ -248,7 +262,8 @@ parts_spelled names p a r c cs ds es fs x y z w h =
     record_spelled names _ (parts p a r c)
     (entry_more names (codes "principal") cs _ (Lit (Entity p)) _ principal_utf8 x
     (entry_more names (codes "action") ds _ (Lit (Entity a)) _ action_utf8 y
-    (entry_more names (codes "resource") es _ (Lit (Entity r)) _ resource_utf8 z (entry_more names (codes "context") fs (125 ∷ []) c [] context_utf8 (w one) (no_entry names))))) refl
+    (entry_more names (codes "resource") es _ (Lit (Entity r)) _ resource_utf8 z
+    (entry_more names (codes "context") fs (125 ∷ []) c [] context_utf8 (w one) (no_entry names))))) refl
 
 -- an empty context is one too
 some_context : (o : Option (Option Entries)) (q : Option Entries) → option_map or_empty o ≡ Some q → (e : Entries) × (q ≡ Some e)
@@ -256,7 +271,8 @@ some_context None q f = absurd (cc f)
 some_context (Some None) q f = let same : Some (WithEntries [] no_trees) ≡ q = cc f in (WithEntries [] no_trees, sym same)
 some_context (Some (Some e)) q f = let same : Some e ≡ q = cc f in (e, sym same)
 
-question_by : (x y z w : Option Json) (question : Question) → TextsIf x → TextsIf y → TextsIf z → TextsIf w → (p : Option Part) → part_in x ≡ p → (a : Option Part) → part_in y ≡ a → (r : Option Part) → part_in z ≡ r
+question_by : (x y z w : Option Json) (question : Question) → TextsIf x → TextsIf y → TextsIf z → TextsIf w → (p : Option Part) → part_in x ≡ p
+    → (a : Option Part) → part_in y ≡ a → (r : Option Part) → part_in z ≡ r
     → (c : Option (Option Entries)) → option_map or_empty (if_there context_in w) ≡ c → question_with p a r c ≡ Some question
     → SpellsQuestion (four (part_written x) (part_written y) (part_written z) (fields_written w)) question
 question_by x y z w question i j k l (Some p) e (Some a) f (Some r) g (Some c) h is =
@@ -266,12 +282,14 @@ question_by x y z w question i j k l (Some p) e (Some a) f (Some r) g (Some c) h
     let context = context_spelled w c l h in
     let entries = some_context (if_there context_in w) c h in
     let same : record { principal = Given principal.uid; action = Given action.uid; resource = Given resource.uid; context = entries.0 } ≡ question =
-    (λ n. record { principal = sym principal.is n; action = sym action.is n; resource = sym resource.is n; context = unwrap_or (sym entries.1 n) NoContext }) ∙ cc is
+    (λ n. record { principal = sym principal.is n; action = sym action.is n; resource = sym resource.is n; context = unwrap_or (sym entries.1 n) NoContext })
+    ∙ cc is
     in
     record {
       tree = record_of (parts principal.uid action.uid resource.uid context.tree);
       spells = λ names calls.
-          parts_spelled names principal.uid action.uid resource.uid context.tree (part_written x) (part_written y) (part_written z) (fields_written w) (principal.spells names) (action.spells names) (resource.spells names) (context.spells names) calls;
+          parts_spelled names principal.uid action.uid resource.uid context.tree (part_written x) (part_written y) (part_written z) (fields_written w)
+          (principal.spells names) (action.spells names) (resource.spells names) (context.spells names) calls;
       reads = body_read principal.uid action.uid resource.uid context.tree c context.entries entries.0 entries.1 ∙ ap Some same;
     }
 question_by x y z w question i j k l None e a f r g c h is = absurd (cc is)
@@ -279,23 +297,29 @@ question_by x y z w question i j k l (Some p) e None f r g c h is = absurd (cc i
 question_by x y z w question i j k l (Some p) e (Some a) f None g c h is = absurd (cc is)
 question_by x y z w question i j k l (Some p) e (Some a) f (Some r) g None h is = absurd (cc is)
 
-object_by : (ms : Members) (question : Question) (b : Bool) → MembersAreTexts ms → cond b (asked_of ms) None ≡ Some question → SpellsQuestion (question_written ms) question
+object_by : (ms : Members) (question : Question) (b : Bool) → MembersAreTexts ms → cond b (asked_of ms) None ≡ Some question
+    → SpellsQuestion (question_written ms) question
 object_by ms question true a e =
     question_by (under (codes "principal") ms) (under (codes "action") ms) (under (codes "resource") ms) (under (codes "context") ms) question
-    (under_texts (codes "principal") ms a) (under_texts (codes "action") ms a) (under_texts (codes "resource") ms a) (under_texts (codes "context") ms a) _ refl _ refl _ refl _ refl e
+    (under_texts (codes "principal") ms a) (under_texts (codes "action") ms a) (under_texts (codes "resource") ms a)
+    (under_texts (codes "context") ms a) _ refl _ refl _ refl _ refl e
 object_by ms question false a e = absurd (cc e)
 
 abbrev IsBody : Text → Question → Type 0
 IsBody text_ question = (t : Tree) × IsTextOf text_ t × (ask_body t ≡ Some question)
 
-pub question_text : (j : Json) (question : Question) (bytes : Text) → AreTexts j → question_in j ≡ Some question → IsUtf8 bytes → encode_utf8_all (asks_written j) ≡ bytes → IsBody bytes question
+pub question_text : (j : Json) (question : Question) (bytes : Text) → AreTexts j → question_in j ≡ Some question → IsUtf8 bytes
+    → encode_utf8_all (asks_written j) ≡ bytes → IsBody bytes question
 question_text (object ms) question bytes a e u is =
     let asked = object_by ms question (only_under question_keys ms && are_distinct (keys ms)) a e in
     let reads : IsTextOf bytes asked.tree =
     λ names calls.
     let spelled = asked.spells names calls in
-    let x = spelled.reads [] [] tt (none nothing) in
-    (x.0, subst (λ cs. AreTokens cs x.0) (append-nil (question_written ms) ∙ chars_from_encodes (question_written ms) bytes u is) x.1, (x.2 (height asked.tree) (omega arith), spelled.slots))
+    let x = spelled.reads [] [] tt (none nothing) in (
+      x.0,
+      subst (λ cs. AreTokens cs x.0) (append-nil (question_written ms) ∙ chars_from_encodes (question_written ms) bytes u is) x.1,
+      (x.2 (height asked.tree) (omega arith), spelled.slots),
+    )
     in
     (asked.tree, reads, asked.reads)
 question_text null question bytes a e u is = absurd (cc e)

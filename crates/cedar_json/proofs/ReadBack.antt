@@ -62,7 +62,8 @@ module _ (names : Names) where
       }
 
   -- one item, without a comma behind it
-  item_alone : (m : Mark) (b : ℕ) (cs : List ℕ) (t : Tree) → Closes m b → ((rest : List ℕ) → Stops is_in_word (b ∷ rest)) → Spells names cs t → SpellsItems m (cs ++ b ∷ []) (t ∷ [])
+  item_alone : (m : Mark) (b : ℕ) (cs : List ℕ) (t : Tree) → Closes m b → ((rest : List ℕ) → Stops is_in_word (b ∷ rest)) → Spells names cs t
+      → SpellsItems m (cs ++ b ∷ []) (t ∷ [])
   item_alone m b cs t closes stops one =
       record {
         reads = λ rest us are.
@@ -88,7 +89,8 @@ module _ (names : Names) where
   called : (p : Name) (ts : List Tree) → Calls (Apply (Call p) (trees ts)) → (is_function names p ≡ true) × AllCall ts
   called p ts h = and_parts (is_function names p) (all_call_only (is_function names) (trees ts)) h
 
-  call_spelled : (s : Text) (p : Name) (cs : List ℕ) (ts : List Tree) → IsUtf8 s → name_spelled s ≡ Some p → is_function names p ≡ true → SpellsItems token.RightParen cs ts → Spells names (chars s ++ 40 ∷ cs) (Apply (Call p) (trees ts))
+  call_spelled : (s : Text) (p : Name) (cs : List ℕ) (ts : List Tree) → IsUtf8 s → name_spelled s ≡ Some p → is_function names p ≡ true
+      → SpellsItems token.RightParen cs ts → Spells names (chars s ++ 40 ∷ cs) (Apply (Call p) (trees ts))
   call_spelled s p cs ts u e listed items =
       let named = is_named s p e in
       record {
@@ -96,7 +98,8 @@ module _ (names : Names) where
             let x = items.reads rest us are in
             let behind = in_front _ _ (cs ++ rest) x.0 (left_paren (cs ++ rest)) x.1 in
             let y = path_read p (40 ∷ (cs ++ rest)) (mark token.LeftParen ∷ x.0) named.free named.some refl behind in
-            let whole : (chars s ++ 40 ∷ cs) ++ rest ≡ path p ++ 40 ∷ (cs ++ rest) = append_assoc (chars s) (40 ∷ cs) rest ∙ ap (λ z. z ++ 40 ∷ (cs ++ rest)) (named_chars s p u named) in (
+            let whole : (chars s ++ 40 ∷ cs) ++ rest ≡ path p ++ 40 ∷ (cs ++ rest) = append_assoc (chars s) (40 ∷ cs) rest
+            ∙ ap (λ z. z ++ 40 ∷ (cs ++ rest)) (named_chars s p u named) in (
               y.0,
               subst (λ z. AreTokens z y.0) (sym whole) y.1,
               by_level names (Apply (Call p) (trees ts)) _ us (omega arith) (λ n low. of_primary (call_is x.0 y.2 listed (x.2 n (omega arith)))),
@@ -107,7 +110,8 @@ module _ (names : Names) where
   -- ---- records
 
   abbrev pub EntriesRead : List ℕ → Entries → List Token → Type 0
-  EntriesRead cs es us = (ss : List Token) × AreTokens cs ss × ((n : ℕ) → heights (trees (values es)) ≤ n → grammar.Items token.RightBrace (Entry (Within names n)) ss es us)
+  EntriesRead cs es us = (ss : List Token) × AreTokens cs ss ×
+      ((n : ℕ) → heights (trees (values es)) ≤ n → grammar.Items token.RightBrace (Entry (Within names n)) ss es us)
 
   pub record SpellsEntries (cs : List ℕ) (es : Entries) : Type 0 where
     pub reads : (rest : List ℕ) (us : List Token) → AreTokens rest us → EntriesRead (cs ++ rest) es us
@@ -116,7 +120,8 @@ module _ (names : Names) where
   pub no_entry : SpellsEntries (125 ∷ []) []
   no_entry = record { reads = λ rest us are. (mark token.RightBrace ∷ us, in_front _ _ rest us (right_brace rest) are, λ n low. grammar.no_items); slots = tt }
 
-  pub entry_more : (k : Text) (cs ds : List ℕ) (t : Tree) (es : Entries) → IsUtf8 k → Spells names cs t → SpellsEntries ds es → SpellsEntries (entry_written k cs ds) ((k, t) ∷ es)
+  pub entry_more : (k : Text) (cs ds : List ℕ) (t : Tree) (es : Entries) → IsUtf8 k → Spells names cs t → SpellsEntries ds es
+      → SpellsEntries (entry_written k cs ds) ((k, t) ∷ es)
   entry_more k cs ds t es u one more =
       record {
         reads = λ rest us are.
@@ -149,22 +154,27 @@ module _ (names : Names) where
       }
 
   -- the record that entries make
-  record_by : (cs : List ℕ) (es : Entries) (t : Tree) (b : Bool) → (are_distinct (keys es) && not (list_any (λ k. is_among k escapes) (keys es))) ≡ b → cond b (Some (record_of es)) None ≡ Some t → Calls t
+  record_by : (cs : List ℕ) (es : Entries) (t : Tree) (b : Bool) → (are_distinct (keys es) && not (list_any (λ k. is_among k escapes) (keys es))) ≡ b
+      → cond b (Some (record_of es)) None ≡ Some t → Calls t
       → (AllCall (values es) → SpellsEntries cs es) → Spells names (123 ∷ cs) t
   record_by cs es t true h e calls spelled =
       let same : record_of es ≡ t = cc e in
       let all = calls_unsorted (is_function names) es (subst Calls (sym same) calls) in
-      subst (Spells names (123 ∷ cs)) same (record_spelled cs es (spelled all) (and_parts (are_distinct (keys es)) (not (list_any (λ k. is_among k escapes) (keys es))) h).0)
+      subst (Spells names (123 ∷ cs)) same
+      (record_spelled cs es (spelled all) (and_parts (are_distinct (keys es)) (not (list_any (λ k. is_among k escapes) (keys es))) h).0)
   record_by cs es t false h e calls spelled = absurd (cc e)
 
-  record_back : (cs : List ℕ) (t : Tree) (o : Option Entries) → and_then o record_with ≡ Some t → Calls t → ((es : Entries) → o ≡ Some es → AllCall (values es) → SpellsEntries cs es) → Spells names (123 ∷ cs) t
+  record_back : (cs : List ℕ) (t : Tree) (o : Option Entries) → and_then o record_with ≡ Some t → Calls t
+      → ((es : Entries) → o ≡ Some es → AllCall (values es) → SpellsEntries cs es) → Spells names (123 ∷ cs) t
   record_back cs t None e calls spelled = absurd (cc e)
-  record_back cs t (Some es) e calls spelled = record_by cs es t (are_distinct (keys es) && not (list_any (λ k. is_among k escapes) (keys es))) refl e calls (λ all. spelled es refl all)
+  record_back cs t (Some es) e calls spelled = record_by cs es t (are_distinct (keys es) && not (list_any (λ k. is_among k escapes) (keys es))) refl e calls
+      (λ all. spelled es refl all)
 
   -- ---- entities
 
   two_by : (k s l t : Text) (u : Uid) → IsUtf8 s → IsUtf8 t → (a b c d : Bool) → is_text k (codes "type") ≡ a
-      → cond (a && b) (uid_with s t) (cond (c && d) (uid_with t s) None) ≡ Some u → (c ≡ true → a ≡ false) → Spells names (cond (is_text k (codes "type")) (uid_text s t) (uid_text t s)) (Lit (Entity u))
+      → cond (a && b) (uid_with s t) (cond (c && d) (uid_with t s) None) ≡ Some u → (c ≡ true → a ≡ false)
+      → Spells names (cond (is_text k (codes "type")) (uid_text s t) (uid_text t s)) (Lit (Entity u))
   two_by k s l t u v w true true c d f e other = rw f (uid_with_spelled names s t u v w e)
   two_by k s l t u v w true false true d f e other = absurd (cc (other refl))
   two_by k s l t u v w true false false d f e other = absurd (cc e)
@@ -197,7 +207,8 @@ module _ (names : Names) where
       let both = and_parts (calls_only (is_function names) t) true (subst AllCall (sym same) all) in
       subst (SpellsItems token.RightParen (one ++ 41 ∷ [])) same (item_alone token.RightParen 41 one t right_paren (λ rest. refl) (f t refl both.0))
   arguments_by key one some o None ts all f g false true e = absurd (cc e)
-  arguments_by key one some o (Some us) ts all f g false true e = let same : us ≡ ts = cc e in subst (SpellsItems token.RightParen some) same (g us refl (subst AllCall (sym same) all))
+  arguments_by key one some o (Some us) ts all f g false true e = let same : us ≡ ts = cc e in subst (SpellsItems token.RightParen some) same
+      (g us refl (subst AllCall (sym same) all))
   arguments_by key one some o os ts all f g false false e = absurd (cc e)
 
   -- a call, by the name in its function
@@ -219,24 +230,33 @@ module _ (names : Names) where
   call_of (object ms) cs t os a e calls spelled = absurd (cc e)
 
   call_by : (k l : Text) (a b : Json) (t : Tree) → AreTexts a → AreTexts b → Calls t
-      → ((u : Tree) → datum a ≡ Some u → Calls u → Spells names (written a) u) → ((us : List Tree) → items_in a ≡ Some us → AllCall us → SpellsItems token.RightParen (list_written a) us)
-      → ((u : Tree) → datum b ≡ Some u → Calls u → Spells names (written b) u) → ((us : List Tree) → items_in b ≡ Some us → AllCall us → SpellsItems token.RightParen (list_written b) us)
-      → (p q : Bool) → cond p (call_with (name_in a) (arguments l (datum b) (items_in b))) (cond q (call_with (name_in b) (arguments k (datum a) (items_in a))) None) ≡ Some t
-      → Spells names (cond p (name_written a ++ arguments_written l (written b) (list_written b)) (name_written b ++ arguments_written k (written a) (list_written a))) t
+      → ((u : Tree) → datum a ≡ Some u → Calls u → Spells names (written a) u)
+      → ((us : List Tree) → items_in a ≡ Some us → AllCall us → SpellsItems token.RightParen (list_written a) us)
+      → ((u : Tree) → datum b ≡ Some u → Calls u → Spells names (written b) u)
+      → ((us : List Tree) → items_in b ≡ Some us → AllCall us → SpellsItems token.RightParen (list_written b) us)
+      → (p q : Bool) → cond p (call_with (name_in a) (arguments l (datum b) (items_in b)))
+      (cond q (call_with (name_in b) (arguments k (datum a) (items_in a))) None) ≡ Some t
+      → Spells names (cond p (name_written a ++ arguments_written l (written b) (list_written b))
+      (name_written b ++ arguments_written k (written a) (list_written a))) t
   call_by k l a b t x y calls f g h i true q e =
-      call_of a _ t _ x e calls (λ ts o all. arguments_by l (written b) (list_written b) (datum b) (items_in b) ts all h i (is_text l (codes "arg")) (is_text l (codes "args")) o)
+      call_of a _ t _ x e calls (λ ts o all. arguments_by l (written b) (list_written b) (datum b) (items_in b) ts all h i (is_text l (codes "arg"))
+      (is_text l (codes "args")) o)
   call_by k l a b t x y calls f g h i false true e =
-      call_of b _ t _ y e calls (λ ts o all. arguments_by k (written a) (list_written a) (datum a) (items_in a) ts all f g (is_text k (codes "arg")) (is_text k (codes "args")) o)
+      call_of b _ t _ y e calls (λ ts o all. arguments_by k (written a) (list_written a) (datum a) (items_in a) ts all f g (is_text k (codes "arg"))
+      (is_text k (codes "args")) o)
   call_by k l a b t x y calls f g h i false false e = absurd (cc e)
 
   -- ---- lists of JSON
 
-  list_back : (cs : List ℕ) (t : Tree) (o : Option (List Tree)) → option_map (λ ts. Apply MakeSet (trees ts)) o ≡ Some t → Calls t → ((ts : List Tree) → o ≡ Some ts → AllCall ts → SpellsItems token.RightBracket cs ts) → Spells names (91 ∷ cs) t
+  list_back : (cs : List ℕ) (t : Tree) (o : Option (List Tree)) → option_map (λ ts. Apply MakeSet (trees ts)) o ≡ Some t → Calls t
+      → ((ts : List Tree) → o ≡ Some ts → AllCall ts → SpellsItems token.RightBracket cs ts) → Spells names (91 ∷ cs) t
   list_back cs t None e calls spelled = absurd (cc e)
   list_back cs t (Some ts) e calls spelled =
-      let same : Apply MakeSet (trees ts) ≡ t = cc e in subst (Spells names (91 ∷ cs)) same (list_spelled cs ts (spelled ts refl (subst Calls (sym same) calls)))
+      let same : Apply MakeSet (trees ts) ≡ t = cc e in subst (Spells names (91 ∷ cs)) same
+      (list_spelled cs ts (spelled ts refl (subst Calls (sym same) calls)))
 
-  item_by : (m : Mark) (cs ds : List ℕ) (ts : List Tree) (o : Option Tree) (os : Option (List Tree)) → read_with o os ≡ Some ts → AllCall ts → ((t : Tree) → o ≡ Some t → Calls t → Spells names cs t)
+  item_by : (m : Mark) (cs ds : List ℕ) (ts : List Tree) (o : Option Tree) (os : Option (List Tree)) → read_with o os ≡ Some ts → AllCall ts
+      → ((t : Tree) → o ≡ Some t → Calls t → Spells names cs t)
       → ((us : List Tree) → os ≡ Some us → AllCall us → SpellsItems m ds us) → SpellsItems m (cs ++ 44 ∷ ds) ts
   item_by m cs ds ts (Some t) (Some us) e all f g =
       let same : t ∷ us ≡ ts = cc e in
@@ -245,11 +265,13 @@ module _ (names : Names) where
   item_by m cs ds ts (Some t) None e all f g = absurd (cc e)
   item_by m cs ds ts None os e all f g = absurd (cc e)
 
-  entry_by : (k : Text) (cs ds : List ℕ) (es : Entries) (o : Option Tree) (os : Option Entries) → IsUtf8 k → entry_with k o os ≡ Some es → AllCall (values es) → ((t : Tree) → o ≡ Some t → Calls t → Spells names cs t)
+  entry_by : (k : Text) (cs ds : List ℕ) (es : Entries) (o : Option Tree) (os : Option Entries) → IsUtf8 k → entry_with k o os ≡ Some es
+      → AllCall (values es) → ((t : Tree) → o ≡ Some t → Calls t → Spells names cs t)
       → ((fs : Entries) → os ≡ Some fs → AllCall (values fs) → SpellsEntries ds fs) → SpellsEntries (entry_written k cs ds) es
   entry_by k cs ds es (Some t) (Some fs) u e all f g =
       let same : (k, t) ∷ fs ≡ es = cc e in
-      let both = and_parts (calls_only (is_function names) t) (all_call_only (is_function names) (trees (values fs))) (subst (λ (x : Entries). AllCall (values x)) (sym same) all) in
+      let both = and_parts (calls_only (is_function names) t) (all_call_only (is_function names) (trees (values fs)))
+      (subst (λ (x : Entries). AllCall (values x)) (sym same) all) in
       subst (SpellsEntries (entry_written k cs ds)) same (entry_more k cs ds t fs u (f t refl both.0) (g fs refl both.1))
   entry_by k cs ds es (Some t) None u e all f g = absurd (cc e)
   entry_by k cs ds es None os u e all f g = absurd (cc e)
@@ -268,19 +290,25 @@ module _ (names : Names) where
     read_back (number s) t a e h = long_spelled names s t a e
     read_back (string s) t a e h = let same : Lit (String s) ≡ t = cc e in subst (Spells names (quoted s)) same (string_spelled names s a)
     read_back (array js) t a e h = list_back (items_written 93 js) t (data_of js) e h (λ ts o all. items_back token.RightBracket 93 right_bracket js ts a o all)
-    read_back (object no_members) t a e h = record_back (125 ∷ []) t (Some []) e h (λ es o all. let same : [] ≡ es = cc o in subst (SpellsEntries (125 ∷ [])) same no_entry)
+    read_back (object no_members) t a e h = record_back (125 ∷ []) t (Some []) e h
+        (λ es o all. let same : [] ≡ es = cc o in subst (SpellsEntries (125 ∷ [])) same no_entry)
     read_back (object (member k j no_members)) t a e h =
-        single_by k j (123 ∷ entry_written k (written j) (125 ∷ [])) (call_written j) t (call_in j) (and_then (entry_with k (datum j) (Some [])) record_with) a.1 h
+        single_by k j (123 ∷ entry_written k (written j) (125 ∷ [])) (call_written j) t (call_in j)
+        (and_then (entry_with k (datum j) (Some [])) record_with) a.1 h
         (λ o. call_back j t a.1 o h)
-        (λ o. record_back (entry_written k (written j) (125 ∷ [])) t (entry_with k (datum j) (Some [])) o h (λ es p all. members_back (member k j no_members) es a p all))
+        (λ o. record_back (entry_written k (written j) (125 ∷ [])) t (entry_with k (datum j) (Some [])) o h
+        (λ es p all. members_back (member k j no_members) es a p all))
         (is_text k (codes "__entity")) (is_text k (codes "__extn")) e
     read_back (object (member k j (member l i ms))) t a e h =
-        record_back (members_written (member k j (member l i ms))) t (entries (member k j (member l i ms))) e h (λ es o all. members_back (member k j (member l i ms)) es a o all)
+        record_back (members_written (member k j (member l i ms))) t (entries (member k j (member l i ms))) e h
+        (λ es o all. members_back (member k j (member l i ms)) es a o all)
 
-    items_back : (m : Mark) (b : ℕ) → Closes m b → (js : Items) (ts : List Tree) → ItemsAreTexts js → data_of js ≡ Some ts → AllCall ts → SpellsItems m (items_written b js) ts
+    items_back : (m : Mark) (b : ℕ) → Closes m b → (js : Items) (ts : List Tree) → ItemsAreTexts js → data_of js ≡ Some ts → AllCall ts
+        → SpellsItems m (items_written b js) ts
     items_back m b closes no_items ts a e all = let same : [] ≡ ts = cc e in subst (SpellsItems m (b ∷ [])) same (no_item m b closes)
     items_back m b closes (item j js) ts a e all =
-        item_by m (written j) (items_written b js) ts (datum j) (data_of js) e all (λ t o h. read_back j t a.0 o h) (λ us o h. items_back m b closes js us a.1 o h)
+        item_by m (written j) (items_written b js) ts (datum j) (data_of js) e all (λ t o h. read_back j t a.0 o h)
+        (λ us o h. items_back m b closes js us a.1 o h)
 
     members_back : (ms : Members) (es : Entries) → MembersAreTexts ms → entries ms ≡ Some es → AllCall (values es) → SpellsEntries (members_written ms) es
     members_back no_members es a e all = let same : [] ≡ es = cc e in subst (SpellsEntries (125 ∷ [])) same no_entry
@@ -303,5 +331,8 @@ module _ (names : Names) where
 pub text_of : (j : Json) (t : Tree) (bytes : Text) → AreTexts j → datum j ≡ Some t → IsUtf8 bytes → encode_utf8_all (written j) ≡ bytes → IsTextOf bytes t
 text_of j t bytes a e u is names calls =
     let spelled = read_back names j t a e calls in
-    let x = spelled.reads [] [] tt (none nothing) in
-    (x.0, subst (λ cs. AreTokens cs x.0) (append-nil (written j) ∙ chars_from_encodes (written j) bytes u is) x.1, (x.2 (height t) (omega arith), spelled.slots))
+    let x = spelled.reads [] [] tt (none nothing) in (
+      x.0,
+      subst (λ cs. AreTokens cs x.0) (append-nil (written j) ∙ chars_from_encodes (written j) bytes u is) x.1,
+      (x.2 (height t) (omega arith), spelled.slots),
+    )

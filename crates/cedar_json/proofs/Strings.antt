@@ -19,7 +19,8 @@ char_by a b d c = cond (a || b) (backslash ∷ c ∷ []) (cond d (backslash ∷ 
 no_line_feed : (c n : ℕ) → (n == line_feed) ≡ false → (c == n) ≡ true → (c == line_feed) ≡ false
 no_line_feed c n other e = subst (λ x. (x == line_feed) ≡ false) (sym (eqb-true c n e)) other
 
-inside_by : (c : ℕ) (front raw rest : List ℕ) → Inside front raw rest → (a : Bool) → (c == quote) ≡ a → (b : Bool) → (c == backslash) ≡ b → (d : Bool) → (c == carriage_return) ≡ d
+inside_by : (c : ℕ) (front raw rest : List ℕ) → Inside front raw rest → (a : Bool) → (c == quote) ≡ a → (b : Bool) → (c == backslash) ≡ b → (d : Bool)
+    → (c == carriage_return) ≡ d
     → Inside (char_by a b d c ++ front) (char_by a b d c ++ raw) rest
 inside_by c front raw rest more true e b f d g = escaped_pair backslash c refl (no_line_feed c quote refl e) more
 inside_by c front raw rest more false e true f d g = escaped_pair backslash c refl (no_line_feed c backslash refl f) more
@@ -34,7 +35,8 @@ inside (c ∷ cs) rest =
 
 pub quoted_front : (s : Text) (rest : List ℕ) → Front (quoted s ++ rest) (text (escaped (chars s))) rest
 quoted_front s rest =
-    subst (λ x. Front (quote ∷ x) (text (escaped (chars s))) rest) (sym (append_assoc (escaped (chars s)) (quote ∷ []) rest)) (is_text quote refl (inside (chars s) rest))
+    subst (λ x. Front (quote ∷ x) (text (escaped (chars s))) rest) (sym (append_assoc (escaped (chars s)) (quote ∷ []) rest))
+    (is_text quote refl (inside (chars s) rest))
 
 -- ---- what it stands for
 
@@ -43,11 +45,13 @@ record StandsFor (raw cs : List ℕ) : Type 0 where
   pub are : parts_of raw ≡ Some parts
   pub characters : string_chars parts ≡ Some cs
 
-part_plain : (c : ℕ) (cs : List ℕ) → (c == backslash) ≡ false → (c == carriage_return) ≡ false → parts_from between (c ∷ cs) ≡ before (Some (itself c)) (parts_from between cs)
+part_plain : (c : ℕ) (cs : List ℕ) → (c == backslash) ≡ false → (c == carriage_return) ≡ false
+    → parts_from between (c ∷ cs) ≡ before (Some (itself c)) (parts_from between cs)
 unfolding parts_from
 part_plain c cs e f = rw (e, f, parts_from)
 
-part_escaped : (c : ℕ) (cs : List ℕ) → (c == 120) ≡ false → (c == 117) ≡ false → parts_from between (backslash ∷ c ∷ cs) ≡ before (simple_escape c) (parts_from between cs)
+part_escaped : (c : ℕ) (cs : List ℕ) → (c == 120) ≡ false → (c == 117) ≡ false
+    → parts_from between (backslash ∷ c ∷ cs) ≡ before (simple_escape c) (parts_from between cs)
 unfolding parts_from
 part_escaped c cs e f = rw (e, f, parts_from)
 
@@ -58,7 +62,8 @@ no_parts = refl
 abbrev with_char : ℕ → Option (List ℕ) → Option (List ℕ)
 with_char c o = elim o as (λ _. Option (List ℕ)) [ None ↦ None | Some ds ↦ Some (c ∷ ds) ]
 
-named_stands : (c n : ℕ) (raw cs : List ℕ) → simple_escape c ≡ Some (named n) → (c == 120) ≡ false → (c == 117) ≡ false → StandsFor raw cs → StandsFor (backslash ∷ c ∷ raw) (n ∷ cs)
+named_stands : (c n : ℕ) (raw cs : List ℕ) → simple_escape c ≡ Some (named n) → (c == 120) ≡ false → (c == 117) ≡ false → StandsFor raw cs
+    → StandsFor (backslash ∷ c ∷ raw) (n ∷ cs)
 named_stands c n raw cs e f g more =
     record {
       parts = named n ∷ more.parts;
@@ -66,7 +71,8 @@ named_stands c n raw cs e f g more =
       characters = ap (with_char n) more.characters;
     }
 
-stands_by : (c : ℕ) (raw cs : List ℕ) → StandsFor raw cs → (a : Bool) → (c == quote) ≡ a → (b : Bool) → (c == backslash) ≡ b → (d : Bool) → (c == carriage_return) ≡ d → StandsFor (char_by a b d c ++ raw) (c ∷ cs)
+stands_by : (c : ℕ) (raw cs : List ℕ) → StandsFor raw cs → (a : Bool) → (c == quote) ≡ a → (b : Bool) → (c == backslash) ≡ b → (d : Bool)
+    → (c == carriage_return) ≡ d → StandsFor (char_by a b d c ++ raw) (c ∷ cs)
 stands_by c raw cs more true e b f d g =
     subst (λ x. StandsFor (backslash ∷ x ∷ raw) (x ∷ cs)) (sym (eqb-true c quote e)) (named_stands quote quote raw cs refl refl refl more)
 stands_by c raw cs more false e true f d g =
@@ -87,7 +93,11 @@ stands (c ∷ cs) = stands_by c (escaped cs) cs (stands cs) (c == quote) refl (c
 string_written : (raw cs : List ℕ) → StandsFor raw cs → string_of raw ≡ Some (encode_utf8_all cs)
 unfolding string_of
 string_written raw cs for =
-    ap (λ o. elim o as (λ _. Option Text) [ None ↦ None | Some qs ↦ elim (string_chars qs) as (λ _. Option Text) [ None ↦ None | Some ds ↦ Some (encode_utf8_all ds) ] ]) for.are
+    ap (λ o. elim o as (λ _. Option Text) [
+      | None ↦ None
+      | Some qs ↦ elim (string_chars qs) as
+          (λ _. Option Text) [ None ↦ None | Some ds ↦ Some (encode_utf8_all ds) ]
+    ]) for.are
     ∙ ap (λ o. elim o as (λ _. Option Text) [ None ↦ None | Some ds ↦ Some (encode_utf8_all ds) ]) for.characters
 
 pub quoted_string : (s : Text) → IsUtf8 s → string_of (escaped (chars s)) ≡ Some s

@@ -66,7 +66,8 @@ run_all : (test : ℕ → Bool) (xs rest : List ℕ) → list_all test xs ≡ tr
 run_all test [] rest h stop = ends stop
 run_all test (x ∷ xs) rest h stop = let both = and_parts (test x) (list_all test xs) h in goes_on x both.0 (run_all test xs rest both.1 stop)
 
-pub word_front : (c : ℕ) (cs rest : List ℕ) → begins_word c ≡ true → list_all is_in_word cs ≡ true → Stops is_in_word rest → Front (c ∷ (cs ++ rest)) (word (word_of (c ∷ cs))) rest
+pub word_front : (c : ℕ) (cs rest : List ℕ) → begins_word c ≡ true → list_all is_in_word cs ≡ true → Stops is_in_word rest
+    → Front (c ∷ (cs ++ rest)) (word (word_of (c ∷ cs))) rest
 word_front c cs rest first others stop = is_word c first (run_all is_in_word cs rest others stop)
 
 no_digit : (c : ℕ) → is_in_word c ≡ false → is_ascii_digit c ≡ false
@@ -76,7 +77,8 @@ digit_stops : (rest : List ℕ) → Stops is_in_word rest → Stops is_ascii_dig
 digit_stops [] stop = tt
 digit_stops (c ∷ cs) stop = no_digit c stop
 
-pub digits_front : (c : ℕ) (cs rest : List ℕ) → is_ascii_digit c ≡ true → list_all is_ascii_digit cs ≡ true → Stops is_in_word rest → Front (c ∷ (cs ++ rest)) (number (digits_value 10 (c ∷ cs))) rest
+pub digits_front : (c : ℕ) (cs rest : List ℕ) → is_ascii_digit c ≡ true → list_all is_ascii_digit cs ≡ true → Stops is_in_word rest
+    → Front (c ∷ (cs ++ rest)) (number (digits_value 10 (c ∷ cs))) rest
 digits_front c cs rest first others stop = is_number c first (run_all is_ascii_digit cs rest others (digit_stops rest stop))
 
 -- ---- texts of ASCII characters

@@ -6,3 +6,6 @@ pub mod Questions
 pub mod QuestionsWritten
 pub mod Laws
 pub mod Rows
+pub mod Appended
+pub mod Parts
+pub mod Said
