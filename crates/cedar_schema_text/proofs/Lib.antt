@@ -5,3 +5,12 @@ mod Insides
 mod Ascii
 mod KindReading
 mod Reading
+mod Loops
+mod Positions
+mod Stable
+mod AttributeLoop
+mod BlockLoops
+mod Nested
+mod Keys
+mod Refs
+mod Said

@@ -2,3 +2,7 @@ pub mod Class
 pub mod View
 pub mod Reads
 pub mod Places
+pub mod Gives
+pub mod Parts
+pub mod Nesting
+pub mod Errors

@@ -1,6 +1,6 @@
-// How many tokens texts have, and where none stands.
+// What texts are read into, and where they are refused.
 
-use crate::{SchemaTextError, tokenize};
+use crate::{SchemaSyntaxError, SchemaTextError, SyntaxFault, parse_schema, tokenize};
 use std::alloc::Global;
 
 fn count(alloc: Global, text: &str) -> Result<usize, SchemaTextError> {
@@ -33,4 +33,68 @@ fn others_have_none(rt: HostRuntime) {
             "{text}"
         );
     }
+}
+
+fn block_count(alloc: Global, text: &str, depth: u32) -> Result<usize, SchemaSyntaxError> {
+    let syntax = parse_schema(alloc, text, depth)?;
+    Ok(syntax.namespaces.len())
+}
+
+#[test]
+fn schemas_are_read(rt: HostRuntime) {
+    let cases = [
+        ("", 0),
+        (
+            "entity User, Admin in [Group, Team] { name: String, age?: Long } tags Set<String>;",
+            1,
+        ),
+        (
+            r#"entity Color enum ["red", "green",]; entity Size = {};"#,
+            2,
+        ),
+        (
+            "@doc(\"x\") namespace A::B { type T = { @note a: Set<{ \"b c\": Bool }>, }; }",
+            1,
+        ),
+        (
+            r#"action view, "edit all" in [Action::"read", write] appliesTo { principal: User, resource: [Photo], context: {} };"#,
+            1,
+        ),
+        ("action read; action write in read;", 2),
+    ];
+    for (text, blocks) in cases {
+        assert_eq!(rt; block_count(rt.alloc(), text, 3), Ok(blocks), "{text}");
+    }
+}
+
+#[test]
+fn other_texts_are_refused(rt: HostRuntime) {
+    let cases = [
+        ("entity User", SyntaxFault::UnexpectedEnd, 11),
+        ("entity in;", SyntaxFault::UnexpectedToken, 7),
+        ("entity A {a Long};", SyntaxFault::UnexpectedToken, 12),
+        ("entity A; }", SyntaxFault::UnexpectedToken, 10),
+        ("type T = Set<Long;", SyntaxFault::UnexpectedToken, 17),
+        ("action a in B::C;", SyntaxFault::UnexpectedToken, 16),
+        ("@a @a entity A;", SyntaxFault::DuplicateAnnotation, 4),
+        (r#"action "\q";"#, SyntaxFault::WrongEscape, 7),
+        ("entity A & B;", SyntaxFault::NoToken, 9),
+    ];
+    for (text, fault, place) in cases {
+        assert_eq!(rt;
+            block_count(rt.alloc(), text, 3),
+            Err(SchemaSyntaxError::Syntax { fault, place }),
+            "{text}"
+        );
+    }
+}
+
+#[test]
+fn deep_texts_are_refused_at_the_bracket(rt: HostRuntime) {
+    let text = "type T = Set<Set<Long>>;";
+    assert_eq!(rt; block_count(rt.alloc(), text, 2), Ok(1));
+    assert_eq!(rt;
+        block_count(rt.alloc(), text, 1),
+        Err(SchemaSyntaxError::Depth { place: 16 })
+    );
 }
