@@ -1,0 +1,4 @@
+//! Schemas: their texts resolved to what their names stand for.
+#![tactic(auto)]
+
+mod ordering;
