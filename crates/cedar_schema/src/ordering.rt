@@ -1,7 +1,6 @@
 // Numbers of a graph in an order in which what edges lead to comes first.
-ghost use Rattle.std.specs.Prelude.{◌≡◌, ◌≤◌, ◌<◌, ◌+◌, ◌-◌, ℕ, [], ◌∷◌, ◌++◌, length, true, false, not, IsTrue, IfOk, OnOk, IfErr, IfSome, IfNone, nat_eq, slice_index, count_by};
+ghost use Rattle.std.specs.Prelude.{◌≡◌, ◌≤◌, ◌<◌, ◌+◌, ◌-◌, ◌*◌, ℕ, [], ◌∷◌, ◌++◌, length, false, not, IsTrue, IfOk, OnOk, IfErr, IfSome, IfNone, slice_index, count_by};
 ghost use Rattle.std.specs.List.{slice_index_or};
-ghost use Rattle.std.specs.Set.{is_member};
 ghost use Rattle.cedar_language.specs.Facts.{Reaches};
 ghost use Rattle.cedar_schema.specs.Orders.{targets_of, HasTarget, AreWithin, IsOrder, IsCycleOf};
 ghost use Rattle.cedar_schema.specs.Walks.{IsWalk};
@@ -80,9 +79,37 @@ impl<'e> Walk<'e> {
         })
     }
 
+    // Where the next edge leads that is to be followed from a number.
+    fn following_target(&self, from: usize) -> usize
+        requires walk { IsWalk self.now }
+        requires below { from < length self.now.edges.now }
+        requires within { AreWithin self.now.edges.now }
+        requires some { 0 < slice_index self.now.left.items from }
+        ensures target { HasTarget self.now.edges.now from result }
+        ensures place { slice_index (targets_of self.now.edges.now from) (slice_index self.now.left.items from - 1) ≡ result }
+        ensures below { result < length self.now.is_done.items }
+    {
+        self.edges[from][self.left[from] - 1]
+    }
+
+    // Follows the next edge from a number; what it leads to is done.
+    fn follow(&mut self, from: usize)
+        requires walk { IsWalk self.old }
+        requires below { from < length self.old.edges.now }
+        requires some { 0 < slice_index self.old.left.items from }
+        requires done { IsTrue (slice_index_or self.old.is_done.items
+            (slice_index (targets_of self.old.edges.now from) (slice_index self.old.left.items from - 1)) false) }
+        ensures walk { IsWalk self.new }
+        ensures same { self.new ≡ record self.old { left = self.new.left } }
+        ensures less { slice_index self.new.left.items from + 1 ≡ slice_index self.old.left.items from }
+    {
+        self.left[from] -= 1;
+    }
+
     // Follows the edges from a number up to one that leads to a number which isn't done, and answers that.
     fn next_target(&mut self, from: usize) -> Option<usize>
         requires walk { IsWalk self.old }
+        requires within { AreWithin self.old.edges.now }
         requires below { from < length self.old.edges.now }
         ensures walk { IsWalk self.new }
         ensures same { self.new ≡ record self.old { left = self.new.left } }
@@ -91,11 +118,11 @@ impl<'e> Walk<'e> {
         ensures none { IfNone result (slice_index self.new.left.items from ≡ 0) }
     {
         while self.left[from] > 0 {
-            let target = self.edges[from][self.left[from] - 1];
+            let target = self.following_target(from);
             if !self.is_done[target] {
                 return Some(target);
             }
-            self.left[from] -= 1;
+            self.follow(from);
         }
         None
     }
@@ -138,6 +165,37 @@ impl<'e> Walk<'e> {
         Ok(())
     }
 
+    // The last number of the path.
+    fn top(&self) -> Option<usize>
+        ensures some { IfSome result (λ top. (0 < length self.now.path.items)
+            × (slice_index self.now.path.items (length self.now.path.items - 1) ≡ top)) }
+        ensures none { IfNone result (self.now.path.items ≡ []) }
+    {
+        let last = self.path.last()?;
+        Some(*last)
+    }
+
+    // One step from the last number of the path: on to one that isn't seen, or back where none is left.
+    fn step(&mut self, top: usize) -> Result<(), OrderError>
+        requires walk { IsWalk self.old }
+        requires within { AreWithin self.old.edges.now }
+        requires some { 0 < length self.old.path.items }
+        requires top { slice_index self.old.path.items (length self.old.path.items - 1) ≡ top }
+        ensures walk { OnOk result (IsWalk self.new) }
+        ensures edges { OnOk result (self.new.edges.now ≡ self.old.edges.now) }
+        ensures kept { OnOk result ((q : ℕ) → IsTrue (slice_index_or self.old.is_seen.items q false)
+            → IsTrue (slice_index_or self.new.is_seen.items q false)) }
+        ensures less { OnOk result (2 * count_by not self.new.is_seen.items + length self.new.path.items
+            < 2 * count_by not self.old.is_seen.items + length self.old.path.items) }
+        ensures cycle { IfErr result (IsCycleOf self.old.edges.now) }
+    {
+        match self.next_target(top) {
+            Some(target) if self.is_seen[target] => Err(OrderError::Cycle(target)),
+            Some(target) => Ok(self.enter(target)?),
+            None => Ok(self.leave(top)?),
+        }
+    }
+
     // Puts a number that isn't seen yet behind the order, after all that edges lead to from it.
     fn walk_from(&mut self, root: usize) -> Result<(), OrderError>
         requires walk { IsWalk self.old }
@@ -154,12 +212,8 @@ impl<'e> Walk<'e> {
         ensures cycle { IfErr result (IsCycleOf self.old.edges.now) }
     {
         self.enter(root)?;
-        while let Some(top) = self.path.last().copied() {
-            match self.next_target(top) {
-                Some(target) if self.is_seen[target] => return Err(OrderError::Cycle(target)),
-                Some(target) => self.enter(target)?,
-                None => self.leave(top)?,
-            }
+        while let Some(top) = self.top() {
+            self.step(top)?;
         }
         Ok(())
     }
