@@ -276,3 +276,26 @@ module _ (w : Walk) (is : IsWalk w) (n : ℕ) (some : 0 < length w.path.items) (
   top_below =
       let one : 0 < length w.path.items = some in
       subst (λ x. x < length w.edges.now) last (is.path_below (length w.path.items - 1) (omega arith))
+
+-- ---- the end
+
+module _ (w : Walk) (is : IsWalk w) (empty : w.path.items ≡ []) (seen : (q : ℕ) → q < length w.edges.now → IsTrue (slice_index_or w.is_seen.items q false)) where
+  nowhere : (q : ℕ) → StandsIn w.path.items q → ⊥
+  nowhere q r =
+      let low : r.0 < 0 = subst (λ n. r.0 < n) (ap length empty) r.1 in
+      omega arith
+
+  -- where nothing is on the path all that is seen is done
+  all_done : (q : ℕ) → q < length w.edges.now → slice_index_or w.is_done.items q false ≡ true
+  all_done q h =
+      elim (slice_index_or w.is_done.items q false) as (λ b. slice_index_or w.is_done.items q false ≡ b → b ≡ true) [
+        | true ↦ λ e. refl
+        | false ↦ λ e. absurd (nowhere q (is.on_path q (seen q h) e))
+      ] refl
+
+  pub finished : IsOrder w.edges.now w.order.items
+  finished = record {
+    whole = λ q h. is.ordered q (all_done q h);
+    below = is.order_below;
+    first = is.first;
+  }

@@ -2,3 +2,5 @@
 #![tactic(auto)]
 
 mod ordering;
+
+pub use ordering::{OrderError, order_by_targets};

@@ -9,7 +9,7 @@ use std::alloc::{AllocError, AllocFailed, Global};
 
 /// Why numbers have no such order.
 #[derive(Debug, Drop)]
-pub(crate) enum OrderError {
+pub enum OrderError {
     /// One or more edges lead from this number to itself.
     Cycle(usize),
     /// Memory ran out.
@@ -222,7 +222,7 @@ impl<'e> Walk<'e> {
 /// The numbers of a graph, each behind those that edges lead to from it. It takes time linear in its edges.
 ///
 /// `Cycle` tells a number that one or more edges lead back to; there is no such order then.
-pub(crate) fn order_by_targets(
+pub fn order_by_targets(
     alloc: Global,
     edges: &[Vec<usize>],
 ) -> Result<Vec<usize>, OrderError>
