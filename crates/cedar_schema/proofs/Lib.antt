@@ -1,1 +1,4 @@
+mod Puts
+mod Tabled
+pub mod TypeViews
 mod Walking

@@ -54,7 +54,7 @@ module _ (w : Walk) (is : IsWalk w) (n : ℕ) (below : n < length w.edges.now) w
     done_count = is.done_count;
     left_below = is.left_below;
     path_below = subst (λ xs. (k : ℕ) → k < length xs → slice_index xs k < length w.edges.now) (sym p)
-      (each_pushed (λ x. x < length w.edges.now) w.path.items n is.path_below below);
+        (each_pushed (λ x. x < length w.edges.now) w.path.items n is.path_below below);
     order_below = is.order_below;
     on_path = λ q h d. subst (λ xs. StandsIn xs q) (sym p) (opened q (sym (ap (λ bs. slice_index_or bs q false) s) ∙ h) d);
     leads = subst (AllPairs (Reaches (HasTarget w.edges.now))) (sym p) (all_pairs_push (Reaches (HasTarget w.edges.now)) w.path.items n is.leads (λ k d h. moved k d h));
@@ -84,7 +84,7 @@ module _ (w : Walk) (is : IsWalk w) (n : ℕ) (below : n < length w.edges.now) w
       left_below = is.left_below;
       path_below = subst (λ xs. (k : ℕ) → k < length xs → slice_index xs k < length w.edges.now) (sym p) (λ k h. low k h);
       order_below = subst (λ xs. (k : ℕ) → k < length xs → slice_index xs k < length w.edges.now) (sym o)
-        (each_pushed (λ x. x < length w.edges.now) w.order.items n is.order_below below);
+          (each_pushed (λ x. x < length w.edges.now) w.order.items n is.order_below below);
       on_path = λ q h f. subst (λ xs. StandsIn xs q) (sym p) (opened q h (sym (ap (λ bs. slice_index_or bs q false) d) ∙ f));
       leads = subst (AllPairs (Reaches (HasTarget w.edges.now))) (sym p) (λ i j e h k. paired i j e h k);
       followed = λ v k h f. subst (λ bs. IsTrue (slice_index_or bs (slice_index (targets_of w.edges.now v) k) false)) (sym d) (kept (slice_index (targets_of w.edges.now v) k) (is.followed v k h f));
@@ -191,18 +191,18 @@ module _ (w : Walk) (is : IsWalk w) (n : ℕ) (below : n < length w.edges.now) w
       known v k h f = elim (eqb_tells v n) [
         | inr t ↦ is.followed v k (subst (λ y. y ≤ k) (get_or-set_other w.left.items n v x 0 t.1) h) f
         | inl t ↦ elim (cases_lt x k) [
-            | inl above ↦
-                let one : slice_index w.left.items v ≡ x + 1 = ap (slice_index w.left.items) t.1 ∙ more in
-                let high : x < k = above in
-                is.followed v k (omega arith) f
-            | inr under ↦
-                let now : slice_index (slice_set w.left.items n x) v ≡ x = ap (slice_index (slice_set w.left.items n x)) t.1 ∙ get_or-set_same w.left.items n x 0 here in
-                let low : k ≤ x = under in
-                let from : slice_index (slice_set w.left.items n x) v ≤ k = h in
-                let same : k ≡ x = omega arith in
-                subst (λ y. slice_index_or w.is_done.items (slice_index (targets_of w.edges.now y) k) false ≡ true) (sym t.1)
-                (subst (λ y. slice_index_or w.is_done.items (slice_index (targets_of w.edges.now n) y) false ≡ true) (sym same) done)
-          ]
+          | inl above ↦
+              let one : slice_index w.left.items v ≡ x + 1 = ap (slice_index w.left.items) t.1 ∙ more in
+              let high : x < k = above in
+              is.followed v k (omega arith) f
+          | inr under ↦
+              let now : slice_index (slice_set w.left.items n x) v ≡ x = ap (slice_index (slice_set w.left.items n x)) t.1 ∙ get_or-set_same w.left.items n x 0 here in
+              let low : k ≤ x = under in
+              let from : slice_index (slice_set w.left.items n x) v ≤ k = h in
+              let same : k ≡ x = omega arith in
+              subst (λ y. slice_index_or w.is_done.items (slice_index (targets_of w.edges.now y) k) false ≡ true) (sym t.1)
+              (subst (λ y. slice_index_or w.is_done.items (slice_index (targets_of w.edges.now n) y) false ≡ true) (sym same) done)
+        ]
       ]
 
 -- ---- rows that are read

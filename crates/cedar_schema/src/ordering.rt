@@ -222,10 +222,7 @@ impl<'e> Walk<'e> {
 /// The numbers of a graph, each behind those that edges lead to from it. It takes time linear in its edges.
 ///
 /// `Cycle` tells a number that one or more edges lead back to; there is no such order then.
-pub fn order_by_targets(
-    alloc: Global,
-    edges: &[Vec<usize>],
-) -> Result<Vec<usize>, OrderError>
+pub fn order_by_targets(alloc: Global, edges: &[Vec<usize>]) -> Result<Vec<usize>, OrderError>
     requires { AreWithin edges.now }
     ensures order { IfOk result (λ order. IsOrder edges.now order.items) }
     ensures cycle { IfErr result (IsCycleOf edges.now) }
