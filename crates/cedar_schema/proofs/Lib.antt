@@ -2,3 +2,4 @@ mod Puts
 mod Tabled
 pub mod TypeViews
 mod Walking
+mod WrittenBy

@@ -5,6 +5,7 @@ mod names;
 mod ordering;
 mod tables;
 mod types;
+mod written;
 
 pub use names::TypeName;
 pub use ordering::{OrderError, order_by_targets};
