@@ -1,0 +1,5 @@
+mod Puts
+mod Tabled
+pub mod TypeViews
+mod Walking
+mod WrittenBy

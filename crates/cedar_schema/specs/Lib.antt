@@ -1,0 +1,4 @@
+pub mod Orders
+pub mod Tables
+pub mod Types
+pub mod Walks

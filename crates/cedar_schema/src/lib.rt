@@ -1,0 +1,13 @@
+//! Schemas: their texts resolved to what their names stand for.
+#![tactic(auto)]
+
+mod names;
+mod ordering;
+mod tables;
+mod types;
+mod written;
+
+pub use names::TypeName;
+pub use ordering::{OrderError, order_by_targets};
+pub use tables::TypeTable;
+pub use types::{AttributeType, SchemaType};
