@@ -1,6 +1,5 @@
 -- What the loop keeps that reads attributes, and what a type is by its parts.
 use Rattle.std.proofs.Common.{◌≡◌, ℕ, zero, suc, ◌-◌, ◌<◌, ◌≤◌, List, [], ◌∷◌, ◌++◌, length, Option, Some, None, refl, sym, ap, ◌∙◌, subst, arith}
-use Rattle.cedar_language.specs.Uid.{Text}
 use Rattle.cedar_grammar.specs.Steps.{◌>>=◌}
 use Rattle.cedar_schema_grammar.specs.Syntax.{TypeSyntax, named, a_set, a_record, AttributesSyntax, no_attributes, an_attribute}
 use Rattle.cedar_schema_grammar.specs.Tokens.{LeftBrace, RightBrace, RightAngle, Comma, Token, mark, eat}
@@ -11,7 +10,7 @@ use Rattle.cedar_schema_text.specs.declared.read_error.ReadError.{ReadError}
 use Rattle.cedar_schema_text.specs.Gives.{Fails}
 use Rattle.cedar_schema_text.specs.Parts.{attribute_at}
 use Rattle.cedar_schema_text.proofs.Loops.{fails_by}
-use Rattle.cedar_schema_text.proofs.Stable.{Within, Leaves, eat_leaves, set_leaves, key_within, type_within, no_key, then_same, either_same, type_same, attributes_same}
+use Rattle.cedar_schema_text.proofs.Stable.{Leaves, eat_leaves, set_leaves, key_within, type_within, no_key, then_same, either_same, type_same, attributes_same}
 
 -- ---- types
 

@@ -1,5 +1,5 @@
 -- The keys of annotations, none of which may stand twice.
-use Rattle.std.proofs.Common.{◌≡◌, ℕ, zero, suc, ◌<◌, Bool, true, false, cond, not, ◌&&◌, ◌||◌, List, [], ◌∷◌, ◌++◌, length, Option, Some, None, BTreeSet, refl, sym, ap, ◌∙◌, subst, arith}
+use Rattle.std.proofs.Common.{◌≡◌, ℕ, zero, suc, ◌<◌, Bool, true, false, cond, not, ◌&&◌, ◌||◌, List, [], ◌∷◌, ◌++◌, length, Option, Some, None, BTreeSet, refl, sym, ap, ◌∙◌, arith}
 use Rattle.std.proofs.lemmas.List.{append-nil, append_assoc}
 use Rattle.std.specs.Borrow.{Bor}
 use Rattle.std.specs.BTreeMap.{is_at}
@@ -11,7 +11,7 @@ use Rattle.cedar_language.specs.Order.{text_cmp}
 use Rattle.cedar_grammar.specs.Names.{is_text, is_among, are_distinct}
 use Rattle.cedar_grammar.specs.Steps.{◌>>=◌}
 use Rattle.cedar_schema_grammar.specs.Tokens.{LeftParen, RightParen, At, Token, mark, eat}
-use Rattle.cedar_schema_grammar.specs.Reading.{Read, mapped, any_word, string_read, value_then, key_then, keys_at, where_distinct, annotations_at}
+use Rattle.cedar_schema_grammar.specs.Reading.{Read, mapped, any_word, string_read, key_then, keys_at, where_distinct, annotations_at}
 use Rattle.cedar_schema_text.specs.declared.read_error.ReadError.{ReadError}
 use Rattle.cedar_schema_text.specs.Gives.{Fails}
 use Rattle.cedar_schema_text.specs.Parts.{after_value, annotation_read}

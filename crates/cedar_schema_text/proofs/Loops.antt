@@ -3,7 +3,7 @@ use Rattle.std.proofs.Common.{◌≡◌, ℕ, zero, suc, ◌<◌, ◌≤◌, Boo
 use Rattle.std.proofs.lemmas.List.{append-nil, append_assoc}
 use Rattle.cedar_grammar.specs.Steps.{◌>>=◌}
 use Rattle.cedar_language.specs.Uid.{Text, Name}
-use Rattle.cedar_schema_grammar.specs.Tokens.{Mark, RightBrace, ColonColon, Comma, Token, mark, eat, is_word}
+use Rattle.cedar_schema_grammar.specs.Tokens.{Mark, ColonColon, Comma, Token, mark, eat, is_word}
 use Rattle.cedar_schema_grammar.specs.Grammar.{goes_on}
 use Rattle.cedar_schema_grammar.specs.Reading.{Read, mapped, id_read, path_then, path_at, several_then, several_at, items_then, items_at}
 use Rattle.cedar_schema_text.specs.declared.read_error.ReadError.{ReadError}

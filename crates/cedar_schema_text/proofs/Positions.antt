@@ -1,5 +1,5 @@
 -- How many tokens are left at a position.
-use Rattle.std.proofs.Common.{◌≡◌, ℕ, suc, subst, ◌-◌, ◌+◌, ◌<◌, ◌≤◌, List, ◌∷◌, length, map, drop, sym, ap, ◌∙◌, arith}
+use Rattle.std.proofs.Common.{◌≡◌, ℕ, suc, subst, ◌-◌, ◌+◌, ◌<◌, ◌≤◌, List, ◌∷◌, length, drop, ap, ◌∙◌, arith}
 use Rattle.std.proofs.lemmas.List.{length-drop, length-map}
 use Rattle.cedar_schema_grammar.specs.Tokens.{Token}
 use Rattle.cedar_schema_text.specs.declared.reader.Reader.{Reader}

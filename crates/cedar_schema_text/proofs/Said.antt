@@ -1,5 +1,5 @@
 -- What a text says, by its tokens.
-use Rattle.std.proofs.Common.{◌≡◌, ℕ, suc, List, length, map, Option, Some, None, refl, ap, ◌∙◌}
+use Rattle.std.proofs.Common.{◌≡◌, ℕ, suc, List, length, map, Option, Some, None, ap, ◌∙◌}
 use Rattle.std.proofs.lemmas.List.{length-map}
 use Rattle.std.specs.Str.{chars}
 use Rattle.cedar_language.specs.Uid.{Text}

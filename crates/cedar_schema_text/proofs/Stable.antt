@@ -1,14 +1,14 @@
 -- What a type reads as doesn't hang on the number of turns, where that is more than the tokens.
-use Rattle.std.proofs.Common.{◌≡◌, ℕ, zero, suc, ◌<◌, ◌≤◌, Bool, true, false, List, [], ◌∷◌, length, Option, Some, None, cond, refl, sym, ap, ◌∙◌, arith}
+use Rattle.std.proofs.Common.{◌≡◌, ℕ, zero, suc, ◌<◌, ◌≤◌, Bool, true, false, List, [], ◌∷◌, length, Option, Some, None, cond, refl, ap, ◌∙◌, arith}
 use Rattle.std.specs.Prelude.{⊤}
 use Rattle.cedar_language.specs.Uid.{Text, Name}
 use Rattle.cedar_grammar.specs.Escape.{string_of}
 use Rattle.cedar_grammar.specs.Steps.{◌>>=◌}
-use Rattle.cedar_typing.specs.Types.{Presence, Required, Optional}
-use Rattle.cedar_schema_grammar.specs.Syntax.{TypeSyntax, named, a_set, a_record, AttributesSyntax, no_attributes, an_attribute}
+use Rattle.cedar_typing.specs.Types.{Required, Optional}
+use Rattle.cedar_schema_grammar.specs.Syntax.{named, a_set, a_record, no_attributes, an_attribute}
 use Rattle.cedar_schema_grammar.specs.Tokens.{LeftBrace, RightBrace, LeftParen, RightParen, LeftAngle, RightAngle, Comma, Colon, ColonColon, Question, At, Token, word, text, mark, same_token, eat}
 use Rattle.cedar_schema_grammar.specs.Grammar.{is_reserved, set_word, goes_on, eat_set}
-use Rattle.cedar_schema_grammar.specs.Reading.{Read, mapped, or_read, ended, id_read, text_of, string_read, name_read, path_then, path_at, any_word, value_then, key_then, keys_at, where_distinct, annotations_at, presence_read, Key, presence_then, key_at, attribute_then, type_at, attributes_at}
+use Rattle.cedar_schema_grammar.specs.Reading.{Read, mapped, or_read, ended, id_read, text_of, string_read, name_read, path_then, path_at, any_word, value_then, keys_at, where_distinct, annotations_at, presence_read, presence_then, key_at, attribute_then, type_at, attributes_at}
 
 -- ---- how many tokens are left
 

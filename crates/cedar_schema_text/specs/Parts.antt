@@ -1,9 +1,9 @@
 -- Parts of the grammar's reading that functions of the code read by themselves.
 use Rattle.std.specs.Prelude.{ℕ, cond, List, [], ◌∷◌, Option, Some, None}
-use Rattle.cedar_language.specs.Uid.{Text, Name}
+use Rattle.cedar_language.specs.Uid.{Text}
 use Rattle.cedar_grammar.specs.Steps.{◌>>=◌}
 use Rattle.cedar_schema_grammar.specs.Syntax.{Declaration, Namespace}
-use Rattle.cedar_schema_grammar.specs.Tokens.{Token, mark, ColonColon, LeftParen, RightParen, LeftBrace, LeftBracket, RightBracket, eat, is_word}
+use Rattle.cedar_schema_grammar.specs.Tokens.{Token, mark, ColonColon, LeftParen, RightParen, LeftBrace, LeftBracket, RightBracket, eat}
 use Rattle.cedar_schema_grammar.specs.Grammar.{goes_on, namespace_word}
 use Rattle.cedar_schema_grammar.specs.Reading.{Read, mapped, any_word, id_read, string_read, name_read, path_at, several_at, items_at, annotations_at, key_at, type_at, enumeration_then, entity_then, action_then, type_then, declaration_at, declarations_at}
 use Rattle.cedar_schema_syntax.specs.View.{Written}
