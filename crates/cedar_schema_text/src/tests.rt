@@ -63,7 +63,7 @@ fn schemas_are_read(rt: HostRuntime) {
         ("action read; action write in read;", 2),
     ];
     for (text, blocks) in cases {
-        assert_eq!(rt; block_count(rt.alloc(), text, 3), Ok(blocks), "{text}");
+        assert_eq!(rt; block_count(rt.alloc(), text, 4), Ok(blocks), "{text}");
     }
 }
 
