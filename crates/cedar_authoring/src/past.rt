@@ -1,5 +1,5 @@
 // What the commands of a script did before a line.
-ghost use Rattle.std.specs.Prelude.{◌≡◌, ◌++◌, ◌∷◌, [], map, IfOk, IfSome, OnOk};
+ghost use Rattle.std.specs.Prelude.{◌≡◌, ◌++◌, ◌∷◌, [], false, is_some, map, IfOk, IfSome, OnOk};
 ghost use Rattle.cedar_evaluator.specs.Holding.{error_seen};
 ghost use Rattle.cedar_authoring.specs.Pasts.{IsNamed, IsOfText};
 ghost use Rattle.cedar_authoring.specs.ScriptQuestions.{TakesUp};
@@ -136,7 +136,9 @@ impl<'t> Past<'t> {
     }
 
     /// The command that loaded what has this id.
-    fn load_of(&self, id: &PolicyID) -> Option<&Load<'t>> {
+    fn load_of(&self, id: &PolicyID) -> Option<&Load<'t>>
+        ensures { IsOfText self.now → is_some result ≡ false }
+    {
         self.loads.get(*self.loaded.get(id)?)
     }
 

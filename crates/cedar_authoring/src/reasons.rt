@@ -20,15 +20,28 @@ pub(crate) fn tell_reasons<F: ExtensionFunctionObject>(
 ) -> Result<(), AllocError>
     ensures { OnOk result (Adds AreBelow (string_bytes told.old) (string_bytes told.new)) }
 {
+    tell_all_erring(alloc, session, told, answer)?;
+    if answer.decision.is_none() && has_no_context(session)? {
+        push_indented(told, NO_CONTEXT)?;
+    }
+    Ok(())
+}
+
+/// Tells why policies err in an answer that a session just gave.
+fn tell_all_erring<F: ExtensionFunctionObject>(
+    alloc: Global,
+    session: &Session<'_, '_, F>,
+    told: &mut String,
+    answer: &Answer,
+) -> Result<(), AllocError>
+    ensures { OnOk result (Adds AreBelow (string_bytes told.old) (string_bytes told.new)) }
+{
     let Some(response) = session.response() else {
         return Err(AllocError);
     };
     let asked = Standings::of(alloc, response)?;
     for (id, kind) in answer.erring.as_slice() {
         tell_erring(alloc, told, &asked, id, *kind)?;
-    }
-    if answer.decision.is_none() && has_no_context(session)? {
-        push_indented(told, NO_CONTEXT)?;
     }
     Ok(())
 }

@@ -110,12 +110,24 @@ fn add_error<'r>(
 ) -> Result<(), AllocError>
     ensures { OnOk result (AreOneMore by_id.old by_id.new (error_seen failed.now).0) }
 {
+    let (id, error) = parts_of(failed);
+    by_id.insert(copy_of(id)?, error)?;
+    Ok(())
+}
+
+/// The id of a policy that errs, and why it does.
+fn parts_of(failed: &AuthorizationError) -> (&PolicyID, &EvaluationError)
+    ensures { result.0.now ≡ (error_seen failed.now).0 }
+{
     match failed {
-        AuthorizationError::PolicyEvaluationError { id, error } => {
-            by_id.insert(id.clone()?, error)?;
-            Ok(())
-        }
+        AuthorizationError::PolicyEvaluationError { id, error } => (id, error),
     }
+}
+
+fn copy_of(id: &PolicyID) -> Result<PolicyID, AllocError>
+    ensures { IfOk result (λ copy. copy ≡ id.now) }
+{
+    id.clone()
 }
 
 pub(crate) fn is_satisfied(response: &PartialResponse, id: &PolicyID) -> bool

@@ -1,5 +1,5 @@
 -- Texts, and the names by which they are told of.
-use Rattle.std.specs.Prelude.{◌≡◌, ◌⊎◌, ◌<◌, length, None, Some, IsUtf8}
+use Rattle.std.specs.Prelude.{◌⊎◌, ◌<◌, length, None, Some, IsUtf8}
 use Rattle.std.specs.Str.Lossy.{utf8_valid_len}
 use Rattle.cedar_language.specs.Uid.{Text}
 use Rattle.cedar_frames.specs.Heads.{body_limit}

@@ -12,7 +12,7 @@ use Rattle.cedar_world.specs.World.{new_world}
 use Rattle.cedar_refusals.specs.Checks.{TellsFaults}
 use Rattle.cedar_authoring.specs.Explaining.{status_of, TellsAnswered, TellsExplained, TellsUnexplained, policies_refused, entities_refused, question_refused}
 use Rattle.cedar_refusals.specs.RefusedBodies.{TellsBody}
-use Rattle.cedar_authoring.specs.Titles.{titled_text}
+use Rattle.cedar_refusals.specs.Titles.{titled_text}
 use Rattle.cedar_refusals.specs.declared.checking.Report.{Report}
 use Rattle.cedar_authoring.proofs.Refusals.{body_told, never_one, unless_memory, both_ok, stepped}
 use Rattle.cedar_authoring.proofs.explaining.explain_texts.Goals as goal

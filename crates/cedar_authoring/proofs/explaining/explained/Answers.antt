@@ -4,8 +4,9 @@ use Rattle.std.proofs.lemmas.Result.{IfOk-weaker}
 use Rattle.cedar_language.specs.Uid.{Text}
 use Rattle.cedar_session.specs.Settings.{setting_with}
 use Rattle.cedar_world.specs.Setting.{Setting}
-use Rattle.cedar_authoring.specs.Explaining.{TellsNoText, TellsUnexplained, Titled}
-use Rattle.cedar_authoring.specs.Titles.{titled, titled_text}
+use Rattle.cedar_refusals.specs.Titles.{TellsNoText, Titled, titled_text}
+use Rattle.cedar_authoring.specs.Explaining.{TellsUnexplained}
+use Rattle.cedar_authoring.specs.Titles.{titled}
 use Rattle.cedar_refusals.specs.declared.checking.Report.{Report}
 use Rattle.cedar_authoring.specs.declared.explaining.Named.{Named}
 use Rattle.cedar_refusals.specs.declared.giving.Source.{Source}

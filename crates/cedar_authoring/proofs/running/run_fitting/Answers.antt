@@ -25,7 +25,7 @@ returns-clause-passes g c =
     let Q : Setting → List Step → Type 0 = λ s ss. AreAnswered s mid ss new c.in_ok-after.after in
     let R : Bool → Type 0 = λ b. AreAnswered by new_world (set_up ++ steps) new b in
     let first : P by new_world = subst (λ (w : World). P by w) c.in-Ok.ensures.world (subst (λ (s : Setting). P s start) made c.in_ok-before.ensures.answered) in
-    let later : Q by steps = subst (λ (ss : List Step). Q by ss) c.as_slice.ensures.value (subst (λ (s : Setting). Q s c.as_slice.result.now) stays c.in_ok-after.ensures.answered) in
+    let later : Q by steps = subst (λ (ss : List Step). Q by ss) c.as_slice-steps.ensures.value (subst (λ (s : Setting). Q s c.as_slice-steps.result.now) stays c.in_ok-after.ensures.answered) in
     (new, subst R (sym c.both-passed.ensures) (AreAnswered-append by new_world mid new set_up steps c.in_ok-before.before c.in_ok-after.after first later))
 
 pub returns-clause-told : goal.returns-clause-told

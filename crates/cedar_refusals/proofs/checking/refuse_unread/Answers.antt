@@ -1,5 +1,5 @@
 -- The first error isn't want of memory, so that no session loads the text (Checked).
-use Rattle.std.proofs.Common.{refl, sym, subst}
+use Rattle.std.proofs.Common.{sym, subst}
 use Rattle.cedar_language.specs.Uid.{Text}
 use Rattle.cedar_parser.specs.Errors.{cause_of}
 use Rattle.cedar_parser.specs.ErrorsLeft.{errors_of}

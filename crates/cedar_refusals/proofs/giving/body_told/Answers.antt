@@ -4,7 +4,7 @@ use Rattle.cedar_grammar.specs.Names.{Names}
 use Rattle.cedar_parser.specs.Strict.{ReadsRestricted}
 use Rattle.cedar_replies.specs.Refusals.{refusal_of}
 use Rattle.cedar_session.specs.Settings.{setting_with}
-use Rattle.cedar_refusals.specs.RefusedBodies.{IsBodyWithin, a_part, unread}
+use Rattle.cedar_refusals.specs.RefusedBodies.{IsBodyWithin, unread}
 use Rattle.cedar_refusals.proofs.PartsTold.{part_found, where_none}
 use Rattle.cedar_refusals.proofs.giving.body_told.Goals as goal
 

@@ -1,5 +1,5 @@
 -- The place told is that of the first byte that shows it.
-use Rattle.std.proofs.Common.{◌≡◌, ◌∙◌, Some, string_bytes, ap, inl, inr, subst, arith}
+use Rattle.std.proofs.Common.{◌≡◌, ◌∙◌, Some, string_bytes, ap, inl, subst}
 use Rattle.std.specs.Str.Lossy.{utf8_valid_len}
 use Rattle.cedar_messages.specs.Places.{position_at}
 use Rattle.cedar_messages.specs.Telling.{TellsOf}
