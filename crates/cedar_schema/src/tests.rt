@@ -1,6 +1,9 @@
-// Names, and what they stand for.
+// Orders of graphs, names, and what they stand for.
+ghost use Rattle.std.specs.Prelude.{◌≡◌, length};
+ghost use Rattle.std.specs.List.{list_all};
+ghost use Rattle.std.proofs.Math.Dec.{ltb};
 
-use crate::{SchemaType, TypeName, TypeTable};
+use crate::{OrderError, SchemaType, TypeName, TypeTable, order_by_targets};
 use cedar_names::texts::SharedText;
 use cedar_schema_syntax::{Attribute, Name, Path, Presence, TypeSyntax};
 use std::alloc::{AllocError, Global};
@@ -214,6 +217,94 @@ fn records_have_each_attribute_once(rt: HostRuntime) -> Result<(), Fail> {
             None => None,
         };
         assert_eq!(rt; found, wanted, "{shows}");
+    }
+    Ok(())
+}
+
+/// The edges from each number, of pairs of numbers.
+fn edges_of(
+    alloc: Global,
+    count: usize,
+    pairs: &[(usize, usize)],
+) -> Result<Vec<Vec<usize>>, AllocError> {
+    let mut edges = Vec::new(alloc);
+    for number in 0..count {
+        let mut targets = Vec::new(alloc);
+        for (from, to) in pairs {
+            if *from == number {
+                targets.push(*to)?;
+            }
+        }
+        edges.push(targets)?;
+    }
+    Ok(edges)
+}
+
+fn are_below(targets: &[usize], count: usize) -> bool
+    ensures { result ≡ list_all (λ t. ltb t count) targets.now }
+{
+    targets.iter().all(|target| *target < count)
+}
+
+/// Whether each edge leads to one of the numbers.
+fn are_within(edges: &[Vec<usize>]) -> bool
+    ensures { result ≡ list_all (λ row. list_all (λ t. ltb t (length edges.now)) row.items) edges.now }
+{
+    let count = edges.len();
+    edges.iter().all(|targets| are_below(targets, count))
+}
+
+/// What is found of a graph: the first and the last number of its order, or one that is on a cycle.
+#[derive(Clone, Copy, Debug, PartialEq, Eq)]
+enum Found {
+    Ends(Option<usize>, Option<usize>),
+    Cycle(usize),
+    Nothing,
+}
+
+fn found_of(alloc: Global, edges: &[Vec<usize>]) -> Found {
+    if !are_within(edges) {
+        return Found::Nothing;
+    }
+    match order_by_targets(alloc, edges) {
+        Ok(order) => Found::Ends(order.first().copied(), order.last().copied()),
+        Err(OrderError::Cycle(number)) => Found::Cycle(number),
+        Err(OrderError::Memory) => Found::Nothing,
+    }
+}
+
+#[test]
+fn targets_come_first(rt: HostRuntime) -> Result<(), Fail> {
+    let cases = [
+        ("no numbers", 0, [].as_slice(), Found::Ends(None, None)),
+        (
+            "a chain",
+            3,
+            [(0, 1), (1, 2)].as_slice(),
+            Found::Ends(Some(2), Some(0)),
+        ),
+        (
+            "a diamond",
+            4,
+            [(2, 0), (2, 3), (0, 1), (3, 1)].as_slice(),
+            Found::Ends(Some(1), Some(2)),
+        ),
+        (
+            "an edge to its own start",
+            2,
+            [(0, 1), (1, 1)].as_slice(),
+            Found::Cycle(1),
+        ),
+        (
+            "a cycle of two",
+            3,
+            [(0, 1), (1, 2), (2, 1)].as_slice(),
+            Found::Cycle(1),
+        ),
+    ];
+    for (shows, count, pairs, wanted) in cases {
+        let edges = edges_of(rt.alloc(), count, pairs)?;
+        assert_eq!(rt; found_of(rt.alloc(), &edges), wanted, "{shows}");
     }
     Ok(())
 }
