@@ -2,4 +2,5 @@ mod Puts
 mod Tabled
 pub mod TypeViews
 mod Walking
+pub mod Within
 mod WrittenBy

@@ -4,6 +4,8 @@
 mod names;
 mod ordering;
 mod tables;
+#[cfg(test)]
+mod tests;
 mod types;
 mod written;
 
