@@ -8,9 +8,9 @@ use Rattle.cedar_tokens.specs.Rest.{StartsWith, IsRest}
 use Rattle.cedar_tokens.specs.Strings.{ReadsInside}
 use Rattle.cedar_schema_grammar.specs.Tokens.{Mark, Token, word, text, mark, mark_of, mark_read, colons_read, text_read, word_read, token_read}
 use Rattle.cedar_schema_text.specs.Reads.{front_read, ReadsToken}
-use Rattle.cedar_schema_text.proofs.Rests.{rest_past, rest_all, rest_rest, shorter-past}
-use Rattle.cedar_schema_text.proofs.Runs.{run-first, run-shorter}
-use Rattle.cedar_schema_text.proofs.Ascii.{chars-run, words-ascii, begins-in}
+use Rattle.cedar_tokens.proofs.Rests.{rest_past, rest_all, rest_rest, shorter-past}
+use Rattle.cedar_tokens.proofs.Runs.{run-first, run-shorter}
+use Rattle.cedar_tokens.proofs.Ascii.{chars-run, words-ascii, begins-in}
 
 word-read : (c : ℕ) (cs : List ℕ) → begins_word c ≡ true → token_read c cs ≡ Some (word (c ∷ (run_of is_in_word cs).0), (run_of is_in_word cs).1)
 unfolding token_read

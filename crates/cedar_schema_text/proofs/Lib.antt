@@ -1,8 +1,3 @@
-mod Rests
-mod Runs
-mod Blanks
-mod Insides
-mod Ascii
 mod KindReading
 mod Reading
 mod Loops

@@ -5,7 +5,7 @@ use Rattle.cedar_grammar.specs.Tokens.{after_blank}
 use Rattle.cedar_tokens.specs.Rest.{IsRest}
 use Rattle.cedar_schema_grammar.specs.Tokens.{Token, before, token_then, tokens_step, tokens_at, tokens_of}
 use Rattle.cedar_schema_text.specs.Reads.{front_read, ReadsToken}
-use Rattle.cedar_schema_text.proofs.Rests.{chars-short, chars-shorter}
+use Rattle.cedar_tokens.proofs.Rests.{chars-short, chars-shorter}
 
 -- tokens, and then what was read
 abbrev pub after_tokens : List Token → Option (List Token) → Option (List Token)

@@ -1,4 +1,3 @@
-pub mod Class
 pub mod View
 pub mod Reads
 pub mod Places

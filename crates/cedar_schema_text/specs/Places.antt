@@ -5,8 +5,8 @@ use Rattle.cedar_schema_grammar.specs.Tokens.{tokens_of}
 use Rattle.cedar_schema_text.specs.Reads.{front_read}
 use Rattle.cedar_schema_text.specs.View.{token_of}
 use Rattle.cedar_schema_text.specs.declared.tokens.Token.{Token}
-use Rattle.cedar_schema_text.specs.declared.error.SchemaTextError.{SchemaTextError}
-use Rattle.cedar_schema_text.specs.declared.error.SchemaTextError.TheVariants as error
+use Rattle.cedar_tokens.specs.declared.error.TokenError.{TokenError}
+use Rattle.cedar_tokens.specs.declared.error.TokenError.TheVariants as error
 
 -- the text has no tokens, and none stands at the place, which lies in it
 pub record IsStuck (text : List ℕ) (place : ℕ) : Type 0 where
@@ -21,6 +21,6 @@ pub record StandsIn (text : List ℕ) (t : Token) : Type 0 where
   pub read : front_read (chars (drop t.place text)) ≡ Some (token_of t, rest)
 
 -- of want of memory nothing is said
-abbrev pub IsNoTokens : List ℕ → SchemaTextError → Type 0
+abbrev pub IsNoTokens : List ℕ → TokenError → Type 0
 IsNoTokens text (error.Unexpected place) = IsStuck text place
 IsNoTokens text error.Memory = ⊤

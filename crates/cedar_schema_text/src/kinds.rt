@@ -5,10 +5,9 @@ ghost use Rattle.cedar_language.specs.Words.{begins_word};
 ghost use Rattle.cedar_schema_text.specs.View.{kind_view};
 ghost use Rattle.cedar_schema_text.specs.Reads.{front_read, ReadsToken};
 
-use crate::characters::{Class, next_char, split_run};
 use crate::marks::{single_mark, split_colons};
-use crate::strings::split_inside;
 use crate::tokens::TokenKind;
+use cedar_tokens::{Class, next_char, split_inside, split_run};
 
 fn begins_word(c: char) -> bool
     ensures { result ≡ begins_word c }

@@ -3,10 +3,8 @@
 
 mod actions;
 mod annotations;
-mod characters;
 mod declarations;
 mod entities;
-mod error;
 mod kinds;
 mod marks;
 mod names;
@@ -14,7 +12,6 @@ mod nesting;
 mod parse;
 mod read_error;
 mod reader;
-mod strings;
 mod syntax_error;
 #[cfg(test)]
 mod tests;
@@ -23,7 +20,6 @@ mod tokenizer;
 mod tokens;
 mod types;
 
-pub use error::SchemaTextError;
 pub use parse::parse_schema;
 pub use read_error::SyntaxFault;
 pub use syntax_error::SchemaSyntaxError;

@@ -6,8 +6,8 @@ ghost use Rattle.cedar_schema_grammar.specs.Tokens.{mark_of, colons_read};
 ghost use Rattle.cedar_tokens.specs.Rest.{IsRest};
 ghost use Rattle.cedar_schema_text.specs.View.{mark_view, kind_view};
 
-use crate::characters::strip_char;
 use crate::tokens::{Mark, TokenKind};
+use cedar_tokens::strip_char;
 
 /// The mark that is written by this character alone.
 pub fn single_mark(c: char) -> Option<Mark>

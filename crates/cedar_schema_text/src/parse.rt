@@ -4,12 +4,12 @@ ghost use Rattle.cedar_schema_grammar.specs.Reading.{said};
 ghost use Rattle.cedar_schema_syntax.specs.View.{schema_view};
 ghost use Rattle.cedar_schema_text.specs.Errors.{NestsWithin, Refuses};
 
-use crate::error::SchemaTextError;
 use crate::read_error::{ReadError, SyntaxFault};
 use crate::reader::Reader;
 use crate::syntax_error::SchemaSyntaxError;
 use crate::tokenizer::tokenize;
 use cedar_schema_syntax::SchemaSyntax;
+use cedar_tokens::TokenError;
 use std::alloc::Global;
 
 /// The syntax of a schema's text (Cedar language reference, "Schema grammar"). At most `depth` braces and angle brackets
@@ -30,13 +30,13 @@ pub fn parse_schema(
 {
     let tokens = match tokenize(alloc, text) {
         Ok(tokens) => tokens,
-        Err(SchemaTextError::Unexpected { place }) => {
+        Err(TokenError::Unexpected { place }) => {
             return Err(SchemaSyntaxError::Syntax {
                 fault: SyntaxFault::NoToken,
                 place,
             });
         }
-        Err(SchemaTextError::Memory) => return Err(SchemaSyntaxError::Memory),
+        Err(TokenError::Memory) => return Err(SchemaSyntaxError::Memory),
     };
     let reader = Reader {
         alloc,

@@ -1,9 +1,10 @@
 // What texts are read into, and where they are refused.
 
-use crate::{SchemaSyntaxError, SchemaTextError, SyntaxFault, parse_schema, tokenize};
+use crate::{SchemaSyntaxError, SyntaxFault, parse_schema, tokenize};
+use cedar_tokens::TokenError;
 use std::alloc::Global;
 
-fn count(alloc: Global, text: &str) -> Result<usize, SchemaTextError> {
+fn count(alloc: Global, text: &str) -> Result<usize, TokenError> {
     let tokens = tokenize(alloc, text)?;
     Ok(tokens.len())
 }
@@ -29,7 +30,7 @@ fn others_have_none(rt: HostRuntime) {
     for (text, place) in cases {
         assert_eq!(rt;
             count(rt.alloc(), text),
-            Err(SchemaTextError::Unexpected { place }),
+            Err(TokenError::Unexpected { place }),
             "{text}"
         );
     }

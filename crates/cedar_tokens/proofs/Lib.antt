@@ -1,10 +1,10 @@
-mod Rests
-mod Runs
+pub mod Rests
+pub mod Runs
 mod Blanks
 mod OtherWords
 mod MarkReading
 mod Insides
-mod Ascii
+pub mod Ascii
 mod KindReading
 mod Reading
 mod Unread

@@ -17,6 +17,7 @@ pub enum Class {
 }
 
 impl Class {
+    /// Whether the character is of the class.
     pub fn contains(self, c: char) -> bool
         ensures { result ≡ test_of self c }
     {

@@ -15,12 +15,13 @@ mod tokenizer;
 mod tokens;
 mod words;
 
+pub use characters::{Class, next_char, skip_blank, split_run, strip_char};
 pub use error::{TokenError, UnescapeError};
 pub use escapes::Part;
 pub use expected::{ExpectedTokenConfig, POLICY_TOKEN_CONFIG, expected_to_string};
 pub use expected_kinds::{KIND_NAMES, Kinds};
 pub use nesting::loose_nesting;
 pub use reader::Tokens;
-pub use strings::{to_unescaped_string, unescape_parts};
+pub use strings::{split_inside, to_unescaped_string, unescape_parts};
 pub use tokenizer::tokenize;
 pub use tokens::{Mark, Span, Token, TokenKind, Word};

@@ -4,7 +4,7 @@ use Rattle.std.specs.Prelude.{◌==◌}
 use Rattle.std.specs.Str.{chars}
 use Rattle.cedar_grammar.specs.Tokens.{colon, Stops}
 use Rattle.cedar_schema_grammar.specs.Tokens.{Colon, mark, colons_read}
-use Rattle.cedar_schema_text.proofs.Rests.{rest_past, rest_all}
+use Rattle.cedar_tokens.proofs.Rests.{rest_past, rest_all}
 use Rattle.cedar_schema_text.proofs.marks.split_colons.Goals as goal
 
 one_colon : (cs : List ℕ) → Stops (λ d. d == colon) cs → (mark Colon, cs) ≡ colons_read cs

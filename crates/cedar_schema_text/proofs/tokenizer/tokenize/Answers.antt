@@ -8,7 +8,7 @@ use Rattle.std.proofs.lemmas.Bool.{eqb-true, eqb-false}
 use Rattle.cedar_schema_text.specs.View.{token_of}
 use Rattle.cedar_schema_text.specs.Reads.{front_read}
 use Rattle.cedar_schema_text.specs.Places.{StandsIn}
-use Rattle.cedar_schema_text.proofs.Rests.{rest_rest, chars-some, no_chars}
+use Rattle.cedar_tokens.proofs.Rests.{rest_rest, chars-some, no_chars}
 use Rattle.cedar_schema_text.proofs.Reading.{Left, left_all, left_more, left_none, left_stuck}
 use Rattle.cedar_schema_text.proofs.tokenizer.tokenize.Goals as goal
 
