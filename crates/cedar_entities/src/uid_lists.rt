@@ -12,6 +12,9 @@ use std::collections::BTreeSet;
 use std::marker::Model;
 use std::mem;
 
+// The greatest number of uids that are looked at one after another: to see that two differ mostly takes a look at their ids alone.
+const FEW: usize = 16;
+
 /// Uids, each once, as one list in rising order. Contracts see the set of them.
 pub struct EntityUIDs {
     alloc: Global,
@@ -80,6 +83,13 @@ fn is_in(set: &BTreeSet<EntityUID>, uid: &EntityUID) -> bool
     set.contains(uid)
 }
 
+// Whether the uid is one of the listed: a look at each.
+fn is_listed(listed: &[EntityUID], uid: &EntityUID) -> bool
+    ensures { result ≡ list_any (same_uid uid.now) listed.now }
+{
+    listed.iter().any(|one| *uid == *one)
+}
+
 // Whether one of the listed uids is in the set.
 fn stands_among(uids: &[EntityUID], set: &BTreeSet<EntityUID>) -> bool
     ensures { result ≡ list_any (λ u. list_any (same_uid u) set.now.keys) uids.now }
@@ -97,11 +107,15 @@ impl EntityUIDs {
         self.uids.as_slice()
     }
 
-    /// Whether the uid is one of them: a binary search.
+    /// Whether the uid is one of them: of few by a look at each, else by a binary search.
     pub fn contains(&self, uid: &EntityUID) -> bool
         ensures { result ≡ set.contains self.now uid.now }
     {
-        self.as_slice().binary_search(uid).is_ok()
+        let listed = self.as_slice();
+        if listed.len() <= FEW {
+            return is_listed(listed, uid);
+        }
+        listed.binary_search(uid).is_ok()
     }
 
     // Whether one of the uids of the set is one of these.

@@ -317,8 +317,9 @@ impl PartialEq for EntityUID {
 
     ghost laws = { same_uid_partial_equiv };
 
+    // The ids first, in which most entities that are compared differ.
     fn eq(&self, other: &EntityUID) -> bool {
-        self.entity_type == other.entity_type && self.eid == other.eid
+        self.eid == other.eid && self.entity_type == other.entity_type
     }
 }
 
@@ -356,9 +357,10 @@ impl Ord for EntityUID {
     ghost matches_eq = { uid_cmp_ties };
 
     fn cmp(&self, other: &EntityUID) -> Ordering {
-        self.entity_type
-            .cmp(&other.entity_type)
-            .then(self.eid.cmp(&other.eid))
+        match self.entity_type.cmp(&other.entity_type) {
+            Ordering::Equal => self.eid.cmp(&other.eid),
+            decided => decided,
+        }
     }
 }
 
