@@ -1,6 +1,6 @@
 -- The body of a question, whose parts are read in any order, is the record that states it.
 use Rattle.std.proofs.Common.{◌≡◌, ◌∙◌, ℕ, suc, true, [], ◌∷◌, List, refl, sym, ap, subst, arith, Option, Some, None}
-use Rattle.std.specs.Prelude.{codes}
+use Rattle.std.specs.Prelude.{codes, option_map}
 use Rattle.std.specs.declared.cmp.Ordering.{Ordering}
 use Rattle.std.specs.declared.cmp.Ordering.TheVariants.{Less, Equal, Greater}
 use Rattle.std.specs.Ordering.{is_eq}
@@ -78,6 +78,13 @@ resource_put (Some a) None None t = record { unused = refl; is = refl }
 resource_put (Some a) None (Some p) t = record { unused = refl; is = refl }
 resource_put (Some a) (Some c) None t = record { unused = refl; is = refl }
 resource_put (Some a) (Some c) (Some p) t = record { unused = refl; is = refl }
+
+-- at the place of a part that wasn't there
+pub placed : {A : Type 0} (o n : Option A) (x : A) (f : A → Tree) (key : Text) (entries : Option Tree → List (Keyed Tree)) → o ≡ None → n ≡ Some x
+    → PutsNew (key, f x) (entries None) (entries (Some (f x))) → PutsNew (key, f x) (entries (option_map f o)) (entries (option_map f n))
+placed o n x f key entries none some puts =
+    subst (λ y. PutsNew (key, f x) (entries (option_map f o)) (entries (option_map f y))) (sym some)
+    (subst (λ y. PutsNew (key, f x) (entries (option_map f y)) (entries (Some (f x)))) (sym none) puts)
 
 -- ---- an entry is read
 

@@ -109,20 +109,30 @@ impl<'t> Reader<'t> {
         }
         self.expect(Sign::LeftBrace)?;
         let parts = self.parts(alloc, types, levels - 2)?;
-        match parts {
-            Parts {
-                principal: Some(principal),
-                action: Some(action),
-                resource: Some(resource),
-                context: Some(context),
-            } => Ok(GivenQuestion {
-                principal,
-                action,
-                resource,
-                context,
-            }),
-            _ => Err(Unread::Other),
-        }
+        let Parts {
+            principal,
+            action,
+            resource,
+            context,
+        } = parts;
+        let Some(principal) = principal else {
+            return Err(Unread::Other);
+        };
+        let Some(action) = action else {
+            return Err(Unread::Other);
+        };
+        let Some(resource) = resource else {
+            return Err(Unread::Other);
+        };
+        let Some(context) = context else {
+            return Err(Unread::Other);
+        };
+        Ok(GivenQuestion {
+            principal,
+            action,
+            resource,
+            context,
+        })
     }
 }
 
