@@ -1,5 +1,5 @@
 -- The body of a question, whose parts are read in any order, is the record that states it.
-use Rattle.std.proofs.Common.{◌≡◌, ◌∙◌, ℕ, suc, true, [], ◌∷◌, List, refl, sym, ap, subst, arith, Option, Some, None}
+use Rattle.std.proofs.Common.{◌≡◌, ◌∙◌, ℕ, suc, true, [], List, refl, sym, ap, subst, Option, Some, None}
 use Rattle.std.specs.Prelude.{codes, option_map}
 use Rattle.std.specs.declared.cmp.Ordering.{Ordering}
 use Rattle.std.specs.declared.cmp.Ordering.TheVariants.{Less, Equal, Greater}
@@ -19,7 +19,7 @@ use Rattle.cedar_data.specs.Takes.{Takes, Skips, Reads}
 use Rattle.cedar_data.specs.Data.{IsData, ReadsKey, ReadsLeaf}
 use Rattle.cedar_data.specs.Simple.{Attributes, tree_of, record_value}
 use Rattle.cedar_data.specs.Parts.{entries_with, part_entries, ReadsParts}
-use Rattle.cedar_data.specs.Questions.{question_tree, IsQuestionText, PutsNew, AddsEntry, ReadsRecord, ReadsSimple, ReadsQuestion}
+use Rattle.cedar_data.specs.Questions.{question_tree, IsQuestionText, PutsNew, AddsEntry, ReadsRecord, ReadsQuestion}
 use Rattle.cedar_data.specs.declared.given.GivenQuestion.{GivenQuestion}
 use Rattle.cedar_data.specs.declared.question.Parts.{Parts}
 use Rattle.cedar_data.proofs.Rules.{within, leaf}

@@ -3,7 +3,7 @@ use Rattle.std.specs.Prelude.{◌≡◌, ℕ, suc, ◌≤◌, true, false, List,
 use Rattle.std.specs.List.{AllByRecursion}
 use Rattle.cedar_language.specs.Height.{height}
 use Rattle.cedar_language.specs.Tree.{MakeRecord, Tree, Lit, Entity, Apply, no_trees, a_tree}
-use Rattle.cedar_language.specs.Uid.{Text, Uid}
+use Rattle.cedar_language.specs.Uid.{Text}
 use Rattle.cedar_language.specs.Value.{Value}
 use Rattle.cedar_grammar.specs.Build.{Keyed, keys, put}
 use Rattle.cedar_grammar.specs.Grammar.{Items, Entry, Unary, Within, inner}

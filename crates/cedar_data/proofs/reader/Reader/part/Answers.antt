@@ -1,5 +1,5 @@
 -- The key tells which part the entry is of, and no such part was there.
-use Rattle.std.proofs.Common.{◌≡◌, ◌∙◌, sym}
+use Rattle.std.proofs.Common.{◌∙◌, sym}
 use Rattle.std.specs.Prelude.{option_map, codes}
 use Rattle.cedar_language.specs.Tree.{Lit, Entity}
 use Rattle.cedar_data.specs.Simple.{tree_of, record_value}

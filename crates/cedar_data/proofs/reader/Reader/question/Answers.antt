@@ -1,5 +1,5 @@
 -- All four parts are read, and the record of their entries is the body.
-use Rattle.std.proofs.Common.{◌≡◌, suc, ◌-◌, arith, option_map, Some}
+use Rattle.std.proofs.Common.{◌≡◌, suc, ◌-◌, arith, option_map}
 use Rattle.cedar_language.specs.Tree.{Lit, Entity}
 use Rattle.cedar_data.specs.Simple.{tree_of, record_value}
 use Rattle.cedar_data.specs.Parts.{entries_with}
