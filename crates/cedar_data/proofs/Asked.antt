@@ -1,6 +1,6 @@
--- The body of a question, read in its order, is the record that states it.
-use Rattle.std.proofs.Common.{◌≡◌, ◌∙◌, ℕ, suc, true, [], ◌∷◌, refl, sym, ap, subst, arith}
-use Rattle.std.specs.Prelude.{codes, ◌&&◌}
+-- The body of a question, whose parts are read in any order, is the record that states it.
+use Rattle.std.proofs.Common.{◌≡◌, ◌∙◌, ℕ, suc, true, [], List, refl, sym, ap, subst, Option, Some, None}
+use Rattle.std.specs.Prelude.{codes, option_map}
 use Rattle.std.specs.declared.cmp.Ordering.{Ordering}
 use Rattle.std.specs.declared.cmp.Ordering.TheVariants.{Less, Equal, Greater}
 use Rattle.std.specs.Ordering.{is_eq}
@@ -10,18 +10,22 @@ use Rattle.cedar_language.specs.OrderLaws.{text_cmp_same}
 use Rattle.cedar_language.specs.Uid.{Text, Uid}
 use Rattle.cedar_language.specs.Tree.{Tree, Lit, Entity}
 use Rattle.cedar_grammar.specs.Build.{Keyed}
-use Rattle.cedar_grammar.specs.Grammar.{Entry, Within, Unary, inner, Items, record_is}
+use Rattle.cedar_grammar.specs.Grammar.{Within}
 use Rattle.cedar_grammar.specs.Names.{Names}
 use Rattle.cedar_grammar.specs.Token as token
 use Rattle.cedar_grammar.specs.Token.{mark}
+use Rattle.cedar_trees.specs.Bare.{record_tree}
 use Rattle.cedar_data.specs.Takes.{Takes, Skips, Reads}
-use Rattle.cedar_data.specs.Data.{IsData, ReadsLeaf}
+use Rattle.cedar_data.specs.Data.{IsData, ReadsKey, ReadsLeaf}
 use Rattle.cedar_data.specs.Simple.{Attributes, tree_of, record_value}
-use Rattle.cedar_data.specs.Questions.{question_tree, IsQuestionText, ReadsKeyOf, ReadsEntityAt, ReadsRecord, ReadsRecordAt, ReadsQuestion}
+use Rattle.cedar_data.specs.Parts.{entries_with, part_entries, ReadsParts}
+use Rattle.cedar_data.specs.Questions.{question_tree, IsQuestionText, PutsNew, AddsEntry, ReadsRecord, ReadsQuestion}
 use Rattle.cedar_data.specs.declared.given.GivenQuestion.{GivenQuestion}
-use Rattle.cedar_data.proofs.Rules.{of_primary, within}
-use Rattle.cedar_data.proofs.Lists.{none_so_far, one_more, last_closed, entry_read}
+use Rattle.cedar_data.specs.declared.question.Parts.{Parts}
+use Rattle.cedar_data.proofs.Rules.{within, leaf}
+use Rattle.cedar_data.proofs.Lists.{entry_read}
 use Rattle.cedar_data.proofs.NoSlots.{no_slots}
+use Rattle.cedar_data.proofs.ReadAttributes.{record_of_entries}
 use Rattle.cedar_data.proofs.Whole.{no_tokens}
 
 equal_of : (o : Ordering) → is_eq o ≡ true → o ≡ Equal
@@ -33,63 +37,90 @@ equal_of Greater h = cc
 pub same_key : (found key : Text) → same_text found key ≡ true → found ≡ key
 same_key found key h = text_cmp_same found key (equal_of (text_cmp found key) (sym (texts_ties found key) ∙ h))
 
-pub entity_at : (key bs next behind rest : Text) (u : Uid) → ReadsKeyOf key bs next → ReadsLeaf next (Lit (Entity u)) behind → Takes (mark token.Comma) behind rest → ReadsEntityAt key bs u rest
-entity_at key bs next behind rest u at read comma = record {
-  behind = behind;
-  reads = λ n names. entry_read (Within names (suc n)) bs at.behind next behind key (Lit (Entity u)) at.reads at.colon (within names (suc n) n next behind (Lit (Entity u)) refl (read n names)).reads;
-  comma = comma;
-}
+-- ---- each part has its place among the entries
 
-pub record_at : (n : ℕ) (key bs next rest : Text) (es : Attributes) → ReadsKeyOf key bs next → ReadsRecord n next es rest → ReadsRecordAt n key bs es rest
-record_at n key bs next rest es at read = record {
-  reads = λ names. entry_read (Within names (suc n)) bs at.behind next rest key (tree_of (record_value es)) at.reads at.colon
-      (within names (suc n) n next rest (tree_of (record_value es)) refl (record { reads = read.reads names; is_data = read.is_data })).reads;
-  is_data = read.is_data;
-  simple = read.simple;
-}
+pub action_put : (c p r : Option Tree) (t : Tree) → PutsNew (codes "action", t) (entries_with None c p r) (entries_with (Some t) c p r)
+action_put None None None t = record { unused = refl; is = refl }
+action_put None None (Some r) t = record { unused = refl; is = refl }
+action_put None (Some p) None t = record { unused = refl; is = refl }
+action_put None (Some p) (Some r) t = record { unused = refl; is = refl }
+action_put (Some c) None None t = record { unused = refl; is = refl }
+action_put (Some c) None (Some r) t = record { unused = refl; is = refl }
+action_put (Some c) (Some p) None t = record { unused = refl; is = refl }
+action_put (Some c) (Some p) (Some r) t = record { unused = refl; is = refl }
 
-module _ (q : GivenQuestion) (bs one two three four five rest : Text) (k : ℕ)
-    (takes : Takes (mark token.LeftBrace) bs one)
-    (principal : ReadsEntityAt (codes "principal") one q.principal.value two)
-    (action : ReadsEntityAt (codes "action") two q.action.value three)
-    (resource : ReadsEntityAt (codes "resource") three q.resource.value four)
-    (context : ReadsRecordAt k (codes "context") four q.context.value.entries five)
-    (closes : Takes (mark token.RightBrace) five rest) where
-  abbrev asker : Keyed Tree
-  asker = (codes "principal", Lit (Entity q.principal.value))
+pub context_put : (a p r : Option Tree) (t : Tree) → PutsNew (codes "context", t) (entries_with a None p r) (entries_with a (Some t) p r)
+context_put None None None t = record { unused = refl; is = refl }
+context_put None None (Some r) t = record { unused = refl; is = refl }
+context_put None (Some p) None t = record { unused = refl; is = refl }
+context_put None (Some p) (Some r) t = record { unused = refl; is = refl }
+context_put (Some a) None None t = record { unused = refl; is = refl }
+context_put (Some a) None (Some r) t = record { unused = refl; is = refl }
+context_put (Some a) (Some p) None t = record { unused = refl; is = refl }
+context_put (Some a) (Some p) (Some r) t = record { unused = refl; is = refl }
 
-  abbrev deed : Keyed Tree
-  deed = (codes "action", Lit (Entity q.action.value))
+pub principal_put : (a c r : Option Tree) (t : Tree) → PutsNew (codes "principal", t) (entries_with a c None r) (entries_with a c (Some t) r)
+principal_put None None None t = record { unused = refl; is = refl }
+principal_put None None (Some r) t = record { unused = refl; is = refl }
+principal_put None (Some c) None t = record { unused = refl; is = refl }
+principal_put None (Some c) (Some r) t = record { unused = refl; is = refl }
+principal_put (Some a) None None t = record { unused = refl; is = refl }
+principal_put (Some a) None (Some r) t = record { unused = refl; is = refl }
+principal_put (Some a) (Some c) None t = record { unused = refl; is = refl }
+principal_put (Some a) (Some c) (Some r) t = record { unused = refl; is = refl }
 
-  abbrev thing : Keyed Tree
-  thing = (codes "resource", Lit (Entity q.resource.value))
+pub resource_put : (a c p : Option Tree) (t : Tree) → PutsNew (codes "resource", t) (entries_with a c p None) (entries_with a c p (Some t))
+resource_put None None None t = record { unused = refl; is = refl }
+resource_put None None (Some p) t = record { unused = refl; is = refl }
+resource_put None (Some c) None t = record { unused = refl; is = refl }
+resource_put None (Some c) (Some p) t = record { unused = refl; is = refl }
+resource_put (Some a) None None t = record { unused = refl; is = refl }
+resource_put (Some a) None (Some p) t = record { unused = refl; is = refl }
+resource_put (Some a) (Some c) None t = record { unused = refl; is = refl }
+resource_put (Some a) (Some c) (Some p) t = record { unused = refl; is = refl }
 
-  abbrev around : Keyed Tree
-  around = (codes "context", tree_of (record_value q.context.value.entries))
+-- at the place of a part that wasn't there
+pub placed : {A : Type 0} (o n : Option A) (x : A) (f : A → Tree) (key : Text) (entries : Option Tree → List (Keyed Tree)) → o ≡ None → n ≡ Some x
+    → PutsNew (key, f x) (entries None) (entries (Some (f x))) → PutsNew (key, f x) (entries (option_map f o)) (entries (option_map f n))
+placed o n x f key entries none some puts =
+    subst (λ y. PutsNew (key, f x) (entries (option_map f o)) (entries (option_map f y))) (sym some)
+    (subst (λ y. PutsNew (key, f x) (entries (option_map f y)) (entries (Some (f x)))) (sym none) puts)
 
-  items : (names : Names) → Reads (Items token.RightBrace (Entry (Within names (suc k)))) one (asker ∷ deed ∷ thing ∷ around ∷ []) rest
-  items names =
-      let item = Entry (Within names (suc k)) in
-      let none = none_so_far token.RightBrace item one in
-      let first = one_more token.RightBrace item one [] one two none asker principal.behind (principal.reads k names) principal.comma in
-      let second = one_more token.RightBrace item one (asker ∷ []) two three first deed action.behind (action.reads k names) action.comma in
-      let third = one_more token.RightBrace item one (asker ∷ deed ∷ []) three four second thing resource.behind (resource.reads k names) resource.comma in
-      last_closed token.RightBrace item one (asker ∷ deed ∷ thing ∷ []) four rest third around five (context.reads names) closes
+-- ---- an entry is read
 
-  operand : (names : Names) → Reads (Unary (inner names (suc k))) bs (question_tree q) rest
-  operand names = record {
-    tokens = λ us are. let x = (items names).tokens us are in (mark token.LeftBrace ∷ x.0, takes.tokens x.0 x.1, of_primary (record_is x.2 refl));
-    shorter = let a = takes.shorter in let b = (items names).shorter in omega arith;
+module _ (k : ℕ) (key found bs mid next rest : Text) (read : ReadsKey bs found mid) (same : same_text found key ≡ true) (colon : Takes (mark token.Colon) mid next) where
+  reads_key : ReadsKey bs key mid
+  reads_key = subst (λ x. ReadsKey bs x mid) (same_key found key same) read
+
+  pub entity_entry : (u : Uid) (old new : List (Keyed Tree)) → ReadsLeaf next (Lit (Entity u)) rest → PutsNew (key, Lit (Entity u)) old new → AddsEntry (suc k) bs old new rest
+  entity_entry u old new reads puts = record {
+    added = (key, Lit (Entity u));
+    reads = λ names. entry_read (Within names (suc k)) bs mid next rest key (Lit (Entity u)) reads_key colon (within names (suc k) k next rest (Lit (Entity u)) refl (reads k names)).reads;
+    is_entry = record { is_data = leaf k (Entity u); simple = refl };
+    puts = puts;
   }
 
-  body_data : IsData (suc (suc k)) (question_tree q)
-  body_data = record { low = let l = context.is_data.low in omega arith; restricted = ap (λ b. b && true) context.is_data.restricted }
+  pub record_entry : (es : Attributes) (old new : List (Keyed Tree)) → ReadsRecord k next es rest → PutsNew (key, tree_of (record_value es)) old new → AddsEntry (suc k) bs old new rest
+  record_entry es old new reads puts =
+      let t = tree_of (record_value es) in
+      record {
+        added = (key, t);
+        reads = λ names. entry_read (Within names (suc k)) bs mid next rest key t reads_key colon
+            (within names (suc k) k next rest t refl (record { reads = reads.reads names; is_data = reads.is_data })).reads;
+        is_entry = record { is_data = reads.is_data; simple = reads.simple };
+        puts = puts;
+      }
 
-  pub question_read : (n : ℕ) → n ≡ suc (suc k) → ReadsQuestion n bs q rest
-  question_read n is = record {
-    reads = λ names. (within names n (suc k) bs rest (question_tree q) is (record { reads = operand names; is_data = body_data })).reads;
-    is_data = subst (λ m. IsData m (question_tree q)) (sym is) body_data;
-  }
+-- ---- the body
+
+pub question_read : (q : GivenQuestion) (n k : ℕ) (bs one rest : Text) (parts : Parts) → n ≡ suc (suc k) → part_entries parts ≡ entries_with (Some (Lit (Entity q.action.value))) (Some (tree_of (record_value q.context.value.entries))) (Some (Lit (Entity q.principal.value))) (Some (Lit (Entity q.resource.value)))
+    → Takes (mark token.LeftBrace) bs one → ReadsParts (suc k) one parts rest → ReadsQuestion n bs q rest
+question_read q n k bs one rest parts is all takes read =
+    let body = record_of_entries (suc k) bs one rest (part_entries parts) (question_tree q) (ap record_tree all) takes read in
+    record {
+      reads = λ names. (within names n (suc k) bs rest (question_tree q) is (record { reads = body.reads names; is_data = body.is_data })).reads;
+      is_data = subst (λ m. IsData m (question_tree q)) (sym is) body.is_data;
+    }
 
 pub question_text : (names : Names) (n : ℕ) (bs start rest : Text) (q : GivenQuestion) → Skips bs start → ReadsQuestion n start q rest → rest ≡ [] → IsQuestionText names n bs q
 question_text names n bs start rest q skipped read end =

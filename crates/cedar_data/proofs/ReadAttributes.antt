@@ -25,7 +25,7 @@ use Rattle.cedar_lemmas.proofs.Booleans.{or_first, or_second}
 use Rattle.cedar_data.specs.Takes.{Takes, Reads}
 use Rattle.cedar_data.specs.Data.{IsData, ReadsLeaf, ReadsKey}
 use Rattle.cedar_data.specs.Simple.{Attributes, tree_of, trees_of, is_simple, are_simple, record_value, written_entries}
-use Rattle.cedar_data.specs.Questions.{IsEntry, PutsNew, AddsAttribute, ReadsAttributes, ReadsRecord, ReadsValue}
+use Rattle.cedar_data.specs.Questions.{IsEntry, PutsNew, AddsEntry, AddsAttribute, ReadsByKey, ReadsAttributes, ReadsSimple, ReadsRecord, ReadsValue}
 use Rattle.cedar_data.proofs.Rules.{of_primary, within, leaf}
 use Rattle.cedar_data.proofs.Lists.{SoFar, none_so_far, closed, last_closed, one_more, put_all, trees_data, values_data, record_is_made, entry_read}
 
@@ -75,49 +75,49 @@ put_last [] done ys e is new =
     ap (λ zs. cond (is_among e.0 (keys zs)) (Err e.0) (Ok (put e zs))) same ∙ ap (λ b. cond b (Err e.0) (Ok (put e ys))) new
 put_last (d ∷ es) done ys e is new = put_unless (is_among d.0 (keys done)) d.0 _ _ ys (put e ys) is (λ h. put_last es (put d done) ys e h new)
 
--- ---- attributes so far
+-- ---- entries so far
 
-pub record ReadSoFar (n : ℕ) (bs : Text) (es : Attributes) (rest : Text) : Type 0 where
+pub record ReadSoFar (n : ℕ) (bs : Text) (es : List (Keyed Tree)) (rest : Text) : Type 0 where
   pub listed : List (Keyed Tree)
   pub so_far : (names : Names) → SoFar token.RightBrace (Entry (Within names n)) bs listed rest
-  pub made : all_put [] listed ≡ Ok (written_entries es)
-  pub are_entries : AllByRecursion (IsEntry n) (written_entries es)
+  pub made : all_put [] listed ≡ Ok es
+  pub are_entries : AllByRecursion (IsEntry n) es
 
 module _ (n : ℕ) (bs : Text) where
-  pub nothing_read : (es : Attributes) → es ≡ [] → ReadSoFar n bs es bs
+  pub nothing_read : (es : List (Keyed Tree)) → es ≡ [] → ReadSoFar n bs es bs
   nothing_read es empty = record {
     listed = [];
     so_far = λ names. none_so_far token.RightBrace (Entry (Within names n)) bs;
-    made = ap (λ x. Ok (written_entries x)) (sym empty);
-    are_entries = subst (λ x. AllByRecursion (IsEntry n) (written_entries x)) (sym empty) tt;
+    made = ap Ok (sym empty);
+    are_entries = subst (AllByRecursion (IsEntry n)) (sym empty) tt;
   }
 
-  module _ (es : Attributes) (now rest : Text) (before : ReadSoFar n bs es now) where
-    pub attributes_closed : Takes (mark token.RightBrace) now rest → ReadsAttributes n bs es rest
-    attributes_closed takes = record {
+  module _ (es : List (Keyed Tree)) (now rest : Text) (before : ReadSoFar n bs es now) where
+    pub entries_closed : Takes (mark token.RightBrace) now rest → ReadsByKey n bs es rest
+    entries_closed takes = record {
       listed = before.listed;
       reads = λ names. closed token.RightBrace (Entry (Within names n)) bs before.listed now rest (before.so_far names) takes;
       made = entries_put before.listed ∙ before.made;
       are_entries = before.are_entries;
     }
 
-    module _ (new : Attributes) (mid : Text) (adds : AddsAttribute n now es new mid) where
-      made_more : all_put [] (before.listed ++ adds.added ∷ []) ≡ Ok (written_entries new)
-      made_more = put_last before.listed [] (written_entries es) adds.added before.made adds.puts.unused ∙ ap Ok (sym adds.puts.is)
+    module _ (new : List (Keyed Tree)) (mid : Text) (adds : AddsEntry n now es new mid) where
+      made_more : all_put [] (before.listed ++ adds.added ∷ []) ≡ Ok new
+      made_more = put_last before.listed [] es adds.added before.made adds.puts.unused ∙ ap Ok (sym adds.puts.is)
 
-      are_more : AllByRecursion (IsEntry n) (written_entries new)
-      are_more = subst (AllByRecursion (IsEntry n)) (sym adds.puts.is) (put_all (IsEntry n) adds.added (written_entries es) adds.is_entry before.are_entries)
+      are_more : AllByRecursion (IsEntry n) new
+      are_more = subst (AllByRecursion (IsEntry n)) (sym adds.puts.is) (put_all (IsEntry n) adds.added es adds.is_entry before.are_entries)
 
-      pub attribute_more : Takes (mark token.Comma) mid rest → ReadSoFar n bs new rest
-      attribute_more takes = record {
+      pub entry_more : Takes (mark token.Comma) mid rest → ReadSoFar n bs new rest
+      entry_more takes = record {
         listed = before.listed ++ adds.added ∷ [];
         so_far = λ names. one_more token.RightBrace (Entry (Within names n)) bs before.listed now rest (before.so_far names) adds.added mid (adds.reads names) takes;
         made = made_more;
         are_entries = are_more;
       }
 
-      pub attribute_last : Takes (mark token.RightBrace) mid rest → ReadsAttributes n bs new rest
-      attribute_last takes = record {
+      pub entry_last : Takes (mark token.RightBrace) mid rest → ReadsByKey n bs new rest
+      entry_last takes = record {
         listed = before.listed ++ adds.added ∷ [];
         reads = λ names. last_closed token.RightBrace (Entry (Within names n)) bs before.listed now rest (before.so_far names) adds.added mid (adds.reads names) takes;
         made = entries_put (before.listed ++ adds.added ∷ []) ∙ made_more;
@@ -151,18 +151,21 @@ record_data n es all =
     let low = are.low in
     record { low = omega arith; restricted = are.restricted }
 
-pub record_of_attributes : (n : ℕ) (bs mid rest : Text) (es : Attributes) → Takes (mark token.LeftBrace) bs mid → ReadsAttributes n mid es rest → ReadsRecord n bs es rest
-record_of_attributes n bs mid rest es takes all =
-    let is = record_is_made all.listed (record_tree (written_entries es)) (record_from all.listed (written_entries es) all.made) in
-    let written = written_record es in
+-- entries, each of a key of its own, between braces
+pub record_of_entries : (n : ℕ) (bs mid rest : Text) (es : List (Keyed Tree)) (t : Tree) → record_tree es ≡ t → Takes (mark token.LeftBrace) bs mid → ReadsByKey n mid es rest → ReadsSimple n bs t rest
+record_of_entries n bs mid rest es t written takes all =
+    let is = record_is_made all.listed (record_tree es) (record_from all.listed es all.made) in
     record {
       reads = λ names. subst (λ x. Reads (Unary (inner names n)) bs x rest) (is.same ∙ written) (record {
         tokens = λ us are. let x = (all.reads names).tokens us are in (mark token.LeftBrace ∷ x.0, takes.tokens x.0 x.1, of_primary (record_is x.2 is.differ));
         shorter = let one = takes.shorter in let two = (all.reads names).shorter in omega arith;
       });
-      is_data = subst (IsData (suc n)) written (record_data n (written_entries es) all.are_entries);
-      simple = ap is_simple (sym written) ∙ all_simple n (written_entries es) all.are_entries;
+      is_data = subst (IsData (suc n)) written (record_data n es all.are_entries);
+      simple = ap is_simple (sym written) ∙ all_simple n es all.are_entries;
     }
+
+pub record_of_attributes : (n : ℕ) (bs mid rest : Text) (es : Attributes) → Takes (mark token.LeftBrace) bs mid → ReadsAttributes n mid es rest → ReadsRecord n bs es rest
+record_of_attributes n bs mid rest es = record_of_entries n bs mid rest (written_entries es) (tree_of (record_value es)) (written_record es)
 
 -- ---- values
 

@@ -5,3 +5,4 @@ pub mod Quoted
 pub mod Data
 pub mod Simple
 pub mod Questions
+pub mod Parts

@@ -1,7 +1,8 @@
 // Questions of which all is given.
-ghost use Rattle.std.specs.Prelude.{IfOk, IfSome};
+ghost use Rattle.std.specs.Prelude.{◌≡◌, None, Some, [], suc, IfOk, IfSome, OnOk};
 ghost use Rattle.cedar_grammar.specs.Names.{Names};
-ghost use Rattle.cedar_data.specs.Questions.{IsQuestionText, ReadsKeyOf, ReadsEntityAt, ReadsRecordAt, ReadsQuestion};
+ghost use Rattle.cedar_data.specs.Parts.{AddsPart, part_entries, ReadsParts};
+ghost use Rattle.cedar_data.specs.Questions.{IsQuestionText, ReadsQuestion};
 
 use crate::attributes::Attributes;
 use crate::given::GivenQuestion;
@@ -14,47 +15,84 @@ use cedar_names::comparing::is_same;
 use std::alloc::{AllocError, Global};
 use std::rc::Rc;
 
-impl<'t> Reader<'t> {
-    // Takes a key, which has to be this one, and the colon behind it.
-    fn expect_key(&mut self, key: &str) -> Result<(), Unread>
-        ensures { IfOk result (λ _. ReadsKeyOf key.now self.old self.new) }
+// The parts of a question that are read by now.
+#[derive(Drop)]
+struct Parts {
+    principal: Option<Rc<EntityUID>>,
+    action: Option<Rc<EntityUID>>,
+    resource: Option<Rc<EntityUID>>,
+    context: Option<Rc<Attributes>>,
+}
+
+impl Parts {
+    fn none() -> Parts
+        ensures { part_entries result ≡ [] }
     {
-        let found = self.plain_key()?;
-        if !is_same(found, key) {
+        Parts {
+            principal: None,
+            action: None,
+            resource: None,
+            context: None,
+        }
+    }
+}
+
+// Puts a part where none is.
+fn put_new<T: Drop>(place: &mut Option<T>, part: T) -> Result<(), Unread>
+    ensures new { OnOk result (place.old ≡ None) }
+    ensures put { OnOk result (place.new ≡ Some part) }
+{
+    if place.is_some() {
+        return Err(Unread::Other);
+    }
+    *place = Some(part);
+    Ok(())
+}
+
+impl<'t> Reader<'t> {
+    // Takes the entry of a part that isn't among the parts, and puts it there. Inside the context so many levels may still nest.
+    fn part(
+        &mut self,
+        alloc: Global,
+        types: &mut TypeNames,
+        levels: u32,
+        parts: &mut Parts,
+    ) -> Result<(), Unread>
+        ensures { OnOk result (AddsPart (suc levels) self.old parts.old parts.new self.new) }
+    {
+        let key = self.plain_key()?;
+        self.expect_colon()?;
+        if is_same(key, "principal") {
+            let uid = self.uid(alloc, types)?;
+            put_new(&mut parts.principal, uid)?;
+        } else if is_same(key, "action") {
+            let uid = self.uid(alloc, types)?;
+            put_new(&mut parts.action, uid)?;
+        } else if is_same(key, "resource") {
+            let uid = self.uid(alloc, types)?;
+            put_new(&mut parts.resource, uid)?;
+        } else if is_same(key, "context") {
+            let record = self.simple_record(alloc, types, levels)?;
+            put_new(&mut parts.context, record)?;
+        } else {
             return Err(Unread::Other);
         }
-        self.expect_colon()?;
         Ok(())
     }
 
-    // Takes the entry of this key, which has to be next, an entity, and the comma behind it.
-    fn uid_at(
-        &mut self,
-        alloc: Global,
-        types: &mut TypeNames,
-        key: &str,
-    ) -> Result<Rc<EntityUID>, Unread>
-        ensures { IfOk result (λ uid. ReadsEntityAt key.now self.old uid.value self.new) }
+    // Takes entries of parts, each of a part of its own, up to the brace that closes them.
+    fn parts(&mut self, alloc: Global, types: &mut TypeNames, levels: u32) -> Result<Parts, Unread>
+        ensures { IfOk result (λ parts. ReadsParts (suc levels) self.old parts self.new) }
     {
-        self.expect_key(key)?;
-        let uid = self.uid(alloc, types)?;
-        self.expect(Sign::Comma)?;
-        Ok(uid)
-    }
-
-    // Takes the entry of this key, which has to be next: a record, inside which so many levels may still nest.
-    fn record_at(
-        &mut self,
-        alloc: Global,
-        types: &mut TypeNames,
-        key: &str,
-        levels: u32,
-    ) -> Result<Rc<Attributes>, Unread>
-        ensures { IfOk result (λ attributes. ReadsRecordAt levels key.now self.old attributes.value.entries self.new) }
-    {
-        self.expect_key(key)?;
-        let record = self.simple_record(alloc, types, levels)?;
-        Ok(record)
+        let mut parts = Parts::none();
+        'parts: while !self.eat(Sign::RightBrace) {
+            self.part(alloc, types, levels, &mut parts)?;
+            if self.eat(Sign::RightBrace) {
+                return Ok(parts);
+            }
+            self.expect(Sign::Comma)?;
+        }
+        Ok(parts)
     }
 
     // Takes the body of a question that nests no deeper than `levels`.
@@ -70,11 +108,25 @@ impl<'t> Reader<'t> {
             return Err(Unread::Other);
         }
         self.expect(Sign::LeftBrace)?;
-        let principal = self.uid_at(alloc, types, "principal")?;
-        let action = self.uid_at(alloc, types, "action")?;
-        let resource = self.uid_at(alloc, types, "resource")?;
-        let context = self.record_at(alloc, types, "context", levels - 2)?;
-        self.expect(Sign::RightBrace)?;
+        let parts = self.parts(alloc, types, levels - 2)?;
+        let Parts {
+            principal,
+            action,
+            resource,
+            context,
+        } = parts;
+        let Some(principal) = principal else {
+            return Err(Unread::Other);
+        };
+        let Some(action) = action else {
+            return Err(Unread::Other);
+        };
+        let Some(resource) = resource else {
+            return Err(Unread::Other);
+        };
+        let Some(context) = context else {
+            return Err(Unread::Other);
+        };
         Ok(GivenQuestion {
             principal,
             action,
@@ -85,7 +137,7 @@ impl<'t> Reader<'t> {
 }
 
 /// The question that a text states within a nesting of `depth`, no higher than that, as most are written: its principal,
-/// its action, its resource and its context in this order, the context made of literals and of records of them.
+/// its action, its resource and its context in any order, the context made of literals and of records of them.
 ///
 /// It is a short way for plain texts, beside [`read_data`](crate::read_data), which makes a tree of them: `None` says
 /// nothing of the text. What is written so without comments, parentheses and escapes in its own four keys is read here,

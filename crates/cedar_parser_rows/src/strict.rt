@@ -1,5 +1,5 @@
 // Texts that are read by the strict grammar, with no function of an extension but `unknown` in bodies.
-use cedar_data::{TypeNames, read_data};
+use cedar_data::{GivenQuestion, TypeNames, read_data, read_question};
 use cedar_extensions::extensions::Extensions;
 use cedar_faults::ExtStyles;
 use cedar_literals::literals::Literal;
@@ -14,6 +14,7 @@ use cedar_parser::strict::{
 use cedar_policy_set::sets::PolicySet;
 use cedar_restricted::restricted::RestrictedExpr;
 use cedar_rows::{Answer, no_case, put};
+use cedar_values::values::Value;
 use std::alloc::{AllocError, Global};
 use std::fmt::Display;
 
@@ -25,6 +26,10 @@ pub(crate) fn read(alloc: Global, verb: &str, text: &str) -> Answer {
         "body" | "data" | "literal" => of_bodies(alloc, verb, text, &bodies(alloc)?),
         "policies" | "expression" => of_policies(alloc, verb, text, &policies(alloc)?),
         "entity" => told(alloc, parse_euid_strict(alloc, text)),
+        "question" => question(
+            alloc,
+            read_question(alloc, text, &mut TypeNames::new(alloc), DEPTH),
+        ),
         _ => no_case(alloc),
     }
 }
@@ -53,8 +58,25 @@ fn of_policies(alloc: Global, verb: &str, text: &str, styles: &ExtStyles) -> Ans
 fn data(alloc: Global, read: Result<Option<RestrictedExpr>, AllocError>) -> Answer {
     match read? {
         Some(body) => body.to_string(alloc),
-        None => String::from_str(alloc, "left to the parser"),
+        None => left(alloc),
     }
+}
+
+/// The principal, the action, the resource and the context of a question that was read straight, or that it is left to
+/// the parser.
+fn question(alloc: Global, read: Result<Option<GivenQuestion>, AllocError>) -> Answer {
+    let Some(question) = read? else {
+        return left(alloc);
+    };
+    let context = Value::record_arc(question.context.clone()?, None);
+    let principal = question.principal.as_ref();
+    let action = question.action.as_ref();
+    let resource = question.resource.as_ref();
+    format!(in alloc; "{principal} {action} {resource} {context}")
+}
+
+fn left(alloc: Global) -> Answer {
+    String::from_str(alloc, "left to the parser")
 }
 
 fn bodies(alloc: Global) -> Result<ExtStyles, AllocError> {
