@@ -9,7 +9,7 @@ use Rattle.cedar_trees.specs.declared.expr.Expr.{Expr}
 use Rattle.cedar_evaluator.specs.Evaluations.{Unsatisfied}
 use Rattle.cedar_evaluator.specs.Grouping.{kept_of, Adds}
 use Rattle.cedar_evaluator.proofs.Adding.{adds_unsatisfied}
-use Rattle.cedar_evaluator.proofs.groups.Groups.keep.Goals as goal
+use Rattle.cedar_evaluator.proofs.partial_response.PartialResponse.keep.Goals as goal
 
 pub returns-in-Ok-Left-false-clause-held : goal.returns-in-Ok-Left-false-clause-held
 returns-in-Ok-Left-false-clause-held c =
@@ -18,5 +18,5 @@ returns-in-Ok-Left-false-clause-held c =
     let after = c.keep_false.new.self in
     let answered : c.args.answer ≡ Ok (Left false) = cc in
     on_ok_weaker c.keep_false.result
-    (λ adds. subst (λ (a : Result (Either Bool (Expr (Unit {0}))) EvaluationError). Adds before.with_false (kept_of p a) before after) (sym answered) (adds_unsatisfied before.with_false p before after adds))
+    (λ adds. subst (λ (a : Result (Either Bool (Expr (Unit {0}))) EvaluationError). Adds c.args.with_false (kept_of p a) before after) (sym answered) (adds_unsatisfied c.args.with_false p before after adds))
     (c.keep_false.ensures.held Unsatisfied refl)

@@ -6,11 +6,11 @@ use Rattle.std.proofs.lemmas.Result.{on_ok_weaker}
 use Rattle.cedar_entities.specs.declared.store.Entities.{Entities}
 use Rattle.cedar_evaluator.specs.Asking.{Inquiry}
 use Rattle.cedar_policy_set.specs.Entries.{policies_of}
-use Rattle.cedar_evaluator.specs.Candidates.{AreCandidates, policies_at}
+use Rattle.cedar_evaluator.specs.Candidates.{AreCandidates}
 use Rattle.cedar_evaluator.specs.Grouping.{Keeps}
 use Rattle.cedar_evaluator.specs.Scopes.{AreScopesOf}
 use Rattle.cedar_evaluator.proofs.Passed.{candidates_apart, candidates_keep}
-use Rattle.cedar_evaluator.proofs.groups.Groups.gather.Goals as goal
+use Rattle.cedar_evaluator.proofs.partial_response.PartialResponse.gather.Goals as goal
 
 -- what holds of what is found holds of its items, as they are lent
 of_found : {X : Type 0} (P : List ℕ → Type 0) (items : X → List ℕ) {o : Option X} {x : X} {lent : List ℕ} → o ≡ Some x → lent ≡ items x → IfSome o (λ y. P (items y)) → P lent
@@ -21,13 +21,12 @@ gather_at-requires-clause-apart g c =
     let rising = of_found IsStrictlyIncreasing (λ positions. positions.items) c.in-Some.is c.deref.ensures.value c.in_ok-positions.ensures.rising in
     candidates_apart c.args.policies.now c.deref.result.now rising c.requires.apart
 
-pub returns-in-Some : goal.returns-in-Some
-returns-in-Some g c =
+pub returns-in-Some-clause-keeps : goal.returns-in-Some-clause-keeps
+returns-in-Some-clause-keeps g c =
     let es = c.args.policies.now in
     let candidates = of_found (λ ps. (i : Inquiry) (store : Entities) → AreScopesOf i store c.args.scopes.now → AreCandidates i store es ps) (λ positions. positions.items) c.in-Some.is c.deref.ensures.value c.in_ok-positions.ensures.whole in
     on_ok_weaker c.gather_at.result
     (λ keeps i store table depth is scopes.
-    subst (λ (b : Bool). Keeps b i store table depth (policies_of es) c.gather_at.new.self) (sym c.if-self.false)
-    (candidates_keep i store table depth es c.deref.result.now c.gather_at.new.self (candidates i store scopes)
-    (subst (λ (b : Bool). Keeps b i store table depth (policies_at es c.deref.result.now) c.gather_at.new.self) c.if-self.false (keeps i store table depth is scopes))))
-    c.gather_at.ensures
+    subst (λ (b : Bool). Keeps b i store table depth (policies_of es) c.gather_at.new.self) (sym c.if-with_false.false)
+    (candidates_keep i store table depth es c.deref.result.now c.gather_at.new.self (candidates i store scopes) (keeps i store table depth is scopes)))
+    c.gather_at.ensures.keeps
