@@ -133,7 +133,7 @@ fn responded<F: ExtensionFunctionObject>(
 {
     let _count = policies.len();
     let scopes = Scopes::new(entities, evaluator);
-    let mut response = PartialResponse::of_none(alloc, request)?;
+    let mut response = PartialResponse::empty(alloc, request)?;
     response.gather(alloc, evaluator, &scopes, policies, with_false)?;
     Ok(response)
 }

@@ -17,7 +17,7 @@ ghost use Rattle.cedar_evaluator.specs.Responses.{false_id, holding_of};
 use crate::candidates::candidates;
 use crate::errors::AuthorizationError;
 use crate::evaluation::EvaluatePolicy;
-use crate::judging::{Told, in_scope, told};
+use crate::judging::{Told, at_a_glance, in_scope};
 use crate::partial_response::{ErrorState, PartialResponse};
 use crate::scopes::Scopes;
 use cedar_extensions::evaluation_error::EvaluationError;
@@ -69,7 +69,7 @@ fn noted(policy: &Policy) -> Result<(PolicyID, Rc<Annotations>), AllocError>
 
 impl PartialResponse {
     /// The response to a request of which nothing is found yet; refused for memory alone.
-    pub(crate) fn of_none(alloc: Global, request: Request) -> Result<PartialResponse, AllocError>
+    pub(crate) fn empty(alloc: Global, request: Request) -> Result<PartialResponse, AllocError>
         ensures none { IfOk result (λ response. holding_in response ≡ holding_of []) }
         ensures asked { IfOk result (λ response. request_asked response ≡ request_parts request) }
     {
@@ -166,7 +166,7 @@ impl PartialResponse {
         ensures keeps { OnOk result (KeepsOneMore F.answers with_false evaluator.now scopes.now policy.now self.old self.new) }
         ensures same { self.new.request ≡ self.old.request }
     {
-        match told(evaluator, scopes, policy) {
+        match at_a_glance(evaluator, scopes, policy) {
             Told::Decided(true) => self.keep_satisfied(policy),
             Told::Decided(false) => self.keep_false(policy, ErrorState::NoError, with_false),
             Told::InScope => {

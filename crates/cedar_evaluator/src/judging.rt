@@ -40,7 +40,7 @@ pub(crate) enum Told {
 /// What is told of a policy before it is evaluated. Its scope is looked at here alone. Takes no memory.
 // Inlined, since each policy in force is asked so.
 #[inline(always)]
-pub(crate) fn told<F: ExtensionFunctionObject>(
+pub(crate) fn at_a_glance<F: ExtensionFunctionObject>(
     evaluator: &Evaluator<'_, '_, '_, F>,
     scopes: &Scopes<'_>,
     policy: &Policy,
@@ -75,10 +75,14 @@ pub(crate) fn in_scope<F: ExtensionFunctionObject>(
     policy: &Policy,
 ) -> Result<Either<bool, Expr>, EvaluationError>
     ensures found { InScope F.answers evaluator.now policy.now (λ facts holds. JudgesAt (partial_in facts holds (condition_of policy.now)) result) }
-    ensures limit { IsLimit result → InScope F.answers evaluator.now policy.now (λ facts holds. depth_of evaluator.now < evaluation_depth facts holds (condition_of policy.now)) }
-    ensures named_limit { IsLimit result → InScopeKnown F.answers evaluator.now policy.now (λ facts holds. depth_of evaluator.now < naming_depth (is_naming F.answers evaluator.now) facts holds (condition_of policy.now)) }
-    ensures read { InScopeRead F.answers evaluator.now policy.now (λ facts holds. JudgesReadAt (partial_in facts holds (read_unknowns (condition_of policy.now))) result) }
-    ensures read_limit { IsLimit result → InScopeRead F.answers evaluator.now policy.now (λ facts holds. depth_of evaluator.now ≤ evaluation_depth facts holds (read_unknowns (condition_of policy.now))) }
+    ensures limit { IsLimit result → InScope F.answers evaluator.now policy.now (λ facts holds.
+        depth_of evaluator.now < evaluation_depth facts holds (condition_of policy.now)) }
+    ensures named_limit { IsLimit result → InScopeKnown F.answers evaluator.now policy.now (λ facts holds.
+        depth_of evaluator.now < naming_depth (is_naming F.answers evaluator.now) facts holds (condition_of policy.now)) }
+    ensures read { InScopeRead F.answers evaluator.now policy.now (λ facts holds.
+        JudgesReadAt (partial_in facts holds (read_unknowns (condition_of policy.now))) result) }
+    ensures read_limit { IsLimit result → InScopeRead F.answers evaluator.now policy.now (λ facts holds.
+        depth_of evaluator.now ≤ evaluation_depth facts holds (read_unknowns (condition_of policy.now))) }
 {
     unknowns_are_read();
     match policy.non_scope_constraints() {

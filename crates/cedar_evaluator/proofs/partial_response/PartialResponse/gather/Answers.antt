@@ -3,12 +3,9 @@ use Rattle.std.proofs.Common.{◌≡◌, Bool, List, ℕ, Option, Some, sym, sub
 use Rattle.std.specs.Prelude.{IfSome}
 use Rattle.std.specs.List.Sorted.{IsStrictlyIncreasing}
 use Rattle.std.proofs.lemmas.Result.{on_ok_weaker}
-use Rattle.cedar_entities.specs.declared.store.Entities.{Entities}
-use Rattle.cedar_evaluator.specs.Asking.{Inquiry}
 use Rattle.cedar_policy_set.specs.Entries.{policies_of}
-use Rattle.cedar_evaluator.specs.Candidates.{AreCandidates}
+use Rattle.cedar_evaluator.specs.Candidates.{AreCandidatesBy}
 use Rattle.cedar_evaluator.specs.Grouping.{Keeps}
-use Rattle.cedar_evaluator.specs.Scopes.{AreScopesOf}
 use Rattle.cedar_evaluator.proofs.Passed.{candidates_apart, candidates_keep}
 use Rattle.cedar_evaluator.proofs.partial_response.PartialResponse.gather.Goals as goal
 
@@ -24,7 +21,7 @@ gather_at-requires-clause-apart g c =
 pub returns-in-Some-clause-keeps : goal.returns-in-Some-clause-keeps
 returns-in-Some-clause-keeps g c =
     let es = c.args.policies.now in
-    let candidates = of_found (λ ps. (i : Inquiry) (store : Entities) → AreScopesOf i store c.args.scopes.now → AreCandidates i store es ps) (λ positions. positions.items) c.in-Some.is c.deref.ensures.value c.in_ok-positions.ensures.whole in
+    let candidates = of_found (AreCandidatesBy c.args.scopes.now es) (λ positions. positions.items) c.in-Some.is c.deref.ensures.value c.in_ok-positions.ensures.whole in
     on_ok_weaker c.gather_at.result
     (λ keeps i store table depth is scopes.
     subst (λ (b : Bool). Keeps b i store table depth (policies_of es) c.gather_at.new.self) (sym c.if-with_false.false)
