@@ -1,5 +1,5 @@
 -- What is kept of a policy that an evaluator answered for, by what it answers over facts by which more may be known.
-use Rattle.std.proofs.Common.{◌≡◌, ◌<◌, ◌≤◌, ℕ, Bool, subst}
+use Rattle.std.proofs.Common.{◌<◌, ◌≤◌, ℕ, Bool, subst}
 use Rattle.std.specs.Prelude.{Result}
 use Rattle.either.specs.declared.Either.{Either}
 use Rattle.cedar_language.specs.Facts.{Facts}

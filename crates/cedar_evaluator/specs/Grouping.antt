@@ -4,24 +4,27 @@ use Rattle.std.specs.Map.{lookup, keys_of}
 use Rattle.either.specs.declared.Either.{Either}
 use Rattle.cedar_language.specs.Answering.{Permit, Forbid}
 use Rattle.cedar_language.specs.Order.{same_text}
+use Rattle.cedar_language.specs.Facts.{Facts}
 use Rattle.cedar_language.specs.Uid.{Text}
 use Rattle.cedar_entities.specs.declared.store.Entities.{Entities}
 use Rattle.cedar_extensions.specs.Answering.{FunctionAnswers}
 use Rattle.cedar_extensions.specs.Failures.{Failure, OfKind, LimitMet, MemoryRanOut, failure_of}
 use Rattle.cedar_extensions.specs.declared.evaluation_error.EvaluationError.{EvaluationError}
 use Rattle.cedar_extensions.specs.Table.{Table}
-use Rattle.cedar_evaluator.specs.Asking.{Inquiry, IsEvaluatorOf}
+use Rattle.cedar_operators.specs.Store.{HasFacts}
+use Rattle.cedar_evaluator.specs.Asking.{Inquiry, IsEvaluatorOf, request_held}
 use Rattle.cedar_interpreter.specs.declared.evaluator.Evaluator.{Evaluator}
-use Rattle.cedar_policies.specs.Policies.{policy_id, policy_syntax}
+use Rattle.cedar_policies.specs.Policies.{bindings_of, policy_id, policy_syntax}
 use Rattle.cedar_policies.specs.declared.policies.Policy.{Policy}
 use Rattle.cedar_policy_set.specs.Bounds.{policy_seen}
 use Rattle.cedar_policy_set.specs.Entries.{Entries}
 use Rattle.cedar_trees.specs.declared.expr.Expr.{Expr}
-use Rattle.cedar_evaluator.specs.Evaluating.{found_by}
+use Rattle.cedar_evaluator.specs.Evaluating.{condition_of, found_by}
 use Rattle.cedar_evaluator.specs.Evaluations.{Found, Erred, Kept, AreKept}
 use Rattle.cedar_evaluator.specs.Holding.{holding_in}
 use Rattle.cedar_evaluator.specs.Responses.{Annotated, Holding, if_effect, satisfied_id, false_id, open_id, error_id, annotated, errors_of, holding_of, without_false}
-use Rattle.cedar_evaluator.specs.Scopes.{AreScopesOf}
+use Rattle.cedar_evaluator.specs.Scopes.{AreScopesOf, Tells}
+use Rattle.cedar_evaluator.specs.declared.judging.Told.{Told}
 use Rattle.cedar_evaluator.specs.declared.partial_response.PartialResponse.{PartialResponse as Response}
 use Rattle.cedar_evaluator.specs.declared.scopes.Scopes.{Scopes}
 
@@ -120,6 +123,11 @@ pub record Keeps (with_false : Bool) (i : Inquiry) (store : Entities) (table : T
 abbrev pub ForEach : {F : Type 0} → (F → FunctionAnswers) → Evaluator F → Scopes → (Inquiry → Entities → Table → ℕ → Type 0) → Type 0
 ForEach answers ev scopes Holds =
     (i : Inquiry) (store : Entities) (table : Table) (depth : ℕ) → IsEvaluatorOf answers i store table depth ev → AreScopesOf i store scopes → Holds i store table depth
+
+-- for each of them this is told of the policy
+abbrev pub IsToldBy : {F : Type 0} → (F → FunctionAnswers) → Evaluator F → Scopes → Policy → Told → Type 0
+IsToldBy answers ev scopes p told =
+    ForEach answers ev scopes (λ i store table depth. (facts : Facts) → HasFacts store facts → Tells facts (request_held i (bindings_of p)) p (condition_of p) told)
 
 -- by these, for each such inquiry
 abbrev pub KeepsBy : {F : Type 0} → (F → FunctionAnswers) → Bool → Evaluator F → Scopes → Entries → Response → Type 0

@@ -10,9 +10,10 @@ ghost use Rattle.cedar_requests.specs.Holding.{request_parts};
 ghost use Rattle.cedar_trees.specs.Bare.{bare};
 ghost use Rattle.cedar_evaluator.specs.Candidates.{policies_at};
 ghost use Rattle.cedar_evaluator.specs.Evaluations.{Found, Satisfied, Erred, Open};
-ghost use Rattle.cedar_evaluator.specs.Grouping.{kept_as, kept_of, is_want, IsKeepable, Adds, AddsFalse, IsNew, KeepsBy, KeepsOneMore};
+ghost use Rattle.cedar_evaluator.specs.Grouping.{kept_as, kept_of, is_want, IsKeepable, Adds, AddsFalse, IsNew, IsToldBy, KeepsBy, KeepsOneMore};
 ghost use Rattle.cedar_evaluator.specs.Holding.{has_erred, holding_in, noted, request_asked};
 ghost use Rattle.cedar_evaluator.specs.Responses.{false_id, holding_of};
+ghost use Rattle.cedar_evaluator.specs.declared.scopes.Scopes.{Scopes};
 
 use crate::candidates::candidates;
 use crate::errors::AuthorizationError;
@@ -166,23 +167,44 @@ impl PartialResponse {
         ensures keeps { OnOk result (KeepsOneMore F.answers with_false evaluator.now scopes.now policy.now self.old self.new) }
         ensures same { self.new.request ≡ self.old.request }
     {
-        match at_a_glance(evaluator, scopes, policy) {
+        let told = at_a_glance(evaluator, scopes, policy);
+        match told {
             Told::Decided(true) => self.keep_satisfied(policy),
             Told::Decided(false) => self.keep_false(policy, ErrorState::NoError, with_false),
+            Told::InScope | Told::Unsaid => {
+                self.evaluate_in_full(alloc, evaluator, policy, told, with_false)
+            }
+        }
+    }
+
+    // The same of a policy of which this is told. Not inlined, since few are evaluated in full.
+    #[inline(never)]
+    fn evaluate_in_full<F: ExtensionFunctionObject>(
+        &mut self,
+        alloc: Global,
+        evaluator: &Evaluator<'_, '_, '_, F>,
+        policy: &Policy,
+        told: Told,
+        with_false: bool,
+    ) -> Result<(), AllocError>
+        requires { IsNew policy.now self.old }
+        ensures keeps { (scopes : Scopes) → IsToldBy F.answers evaluator.now scopes policy.now told →
+            OnOk result (KeepsOneMore F.answers with_false evaluator.now scopes policy.now self.old self.new) }
+        ensures same { self.new.request ≡ self.old.request }
+    {
+        match told {
             Told::InScope => {
                 let answer = in_scope(alloc, evaluator, policy);
                 self.keep(alloc, policy, answer, with_false)
             }
-            Told::Unsaid => {
+            Told::Unsaid | Told::Decided(_) => {
                 let answer = evaluator.partial_evaluate(alloc, policy);
                 self.keep(alloc, policy, answer, with_false)
             }
         }
     }
 
-    // Keeps what one more policy comes to; want of memory is handed on. Not inlined, since few policies are
-    // evaluated in full.
-    #[inline(never)]
+    // Keeps what one more policy comes to; want of memory is handed on.
     fn keep(
         &mut self,
         alloc: Global,

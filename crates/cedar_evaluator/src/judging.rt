@@ -4,7 +4,6 @@ ghost use Rattle.std.specs.Prelude.{◌<◌, ◌≤◌};
 ghost use Rattle.cedar_language.specs.Facts.{Facts};
 ghost use Rattle.cedar_partial_evaluation.specs.Partial.{partial_in};
 ghost use Rattle.cedar_partial_evaluation.specs.ReadUnknowns.{read_unknowns};
-ghost use Rattle.cedar_operators.specs.Store.{HasFacts};
 ghost use Rattle.cedar_evaluator.specs.Asking.{request_held};
 ghost use Rattle.cedar_interpreter.specs.Depths.{evaluation_depth};
 ghost use Rattle.cedar_interpreter.specs.Holding.{is_naming, depth_of};
@@ -13,7 +12,7 @@ ghost use Rattle.cedar_interpreter.specs.Naming.{naming_depth};
 ghost use Rattle.cedar_policies.specs.Policies.{bindings_of};
 ghost use Rattle.cedar_evaluator.specs.Evaluating.{condition_of, InScope, InScopeKnown, InScopeRead, JudgesAt, JudgesReadAt};
 ghost use Rattle.cedar_evaluator.specs.Evaluations.{IsServedRead};
-ghost use Rattle.cedar_evaluator.specs.Grouping.{ForEach};
+ghost use Rattle.cedar_evaluator.specs.Grouping.{ForEach, IsToldBy};
 ghost use Rattle.cedar_evaluator.specs.Scopes.{Tells};
 
 use crate::evaluation::judged;
@@ -28,6 +27,7 @@ use either::Either;
 use std::alloc::Global;
 
 /// What the scope of a policy tells of it, and behind a scope that holds a glance at its clauses.
+#[derive(Clone, Copy)]
 pub(crate) enum Told {
     /// Whether it is satisfied.
     Decided(bool),
@@ -45,8 +45,7 @@ pub(crate) fn at_a_glance<F: ExtensionFunctionObject>(
     scopes: &Scopes<'_>,
     policy: &Policy,
 ) -> Told
-    ensures found { ForEach F.answers evaluator.now scopes.now (λ i store table depth.
-        (facts : Facts) → HasFacts store facts → Tells facts (request_held i (bindings_of policy.now)) policy.now (condition_of policy.now) result) }
+    ensures found { IsToldBy F.answers evaluator.now scopes.now policy.now result }
     ensures read { ForEach F.answers evaluator.now scopes.now (λ i store table depth.
         (facts : Facts) → IsServedRead i store table depth facts (condition_of policy.now) →
         Tells facts (request_held i (bindings_of policy.now)) policy.now (read_unknowns (condition_of policy.now)) result) }
@@ -67,8 +66,6 @@ pub(crate) fn at_a_glance<F: ExtensionFunctionObject>(
 
 /// What a policy comes to, as `EvaluatePolicy::partial_evaluate` has it, where its scope holds: the clauses alone
 /// are evaluated.
-// Not inlined, since few policies are evaluated in full.
-#[inline(never)]
 pub(crate) fn in_scope<F: ExtensionFunctionObject>(
     alloc: Global,
     evaluator: &Evaluator<'_, '_, '_, F>,

@@ -1,10 +1,8 @@
 -- Of a policy that isn't satisfied no error is kept.
-use Rattle.std.proofs.Common.{◌≡◌, Bool, false, ap, refl, sym, subst, ◌∙◌}
-use Rattle.std.specs.Prelude.{Result, Ok}
+use Rattle.std.proofs.Common.{◌≡◌, false, ap, refl, sym, subst, ◌∙◌}
+use Rattle.std.specs.Prelude.{Ok}
 use Rattle.std.proofs.lemmas.Result.{on_ok_weaker}
-use Rattle.either.specs.declared.Either.{Either}
 use Rattle.either.specs.declared.Either.TheVariants.{Left, Right}
-use Rattle.cedar_extensions.specs.declared.evaluation_error.EvaluationError.{EvaluationError}
 use Rattle.cedar_trees.specs.Bare.{bare}
 use Rattle.cedar_trees.specs.declared.expr.Expr.{Expr}
 use Rattle.cedar_evaluator.specs.Evaluations.{Found, Unsatisfied, Open}
