@@ -21,7 +21,7 @@ use Rattle.cedar_policy_set.specs.Bounds.{policy_seen}
 use Rattle.cedar_trees.specs.declared.expr.Expr.{Expr}
 use Rattle.cedar_evaluator.specs.Asking.{Inquiry, IsEvaluatorOf}
 use Rattle.cedar_evaluator.specs.Evaluating.{condition_of, JudgesAt, JudgesReadAt}
-use Rattle.cedar_evaluator.specs.Evaluations.{IsKept}
+use Rattle.cedar_evaluator.specs.Evaluations.{IsKept, IsServed, IsServedRead}
 use Rattle.cedar_evaluator.specs.Grouping.{kept_of, IsKeepable}
 use Rattle.cedar_evaluator.proofs.Asked.{asked_plain}
 use Rattle.cedar_evaluator.proofs.Deepening.{knows, deep_as, nests_as, deep_read_as}
@@ -43,19 +43,25 @@ module _
     (keepable : IsKeepable answer)
     (i : Inquiry) (store : Entities) (table : Table) (depth : ℕ) (is : IsEvaluatorOf answers i store table depth ev)
     (known : (facts : Facts) → HasFacts store facts → IsKnown facts) where
+  serves : (facts : Facts) → IsServed i store table depth facts (condition_of p) → Serves answers ev facts (condition_of p)
+  serves facts served = is.serves facts (condition_of p) served.entities served.functions served.names_nothing
+
+  serves_read : (facts : Facts) → IsServedRead i store table depth facts (condition_of p) → ServesRead answers ev facts (condition_of p)
+  serves_read facts served =
+      is.reads facts (condition_of p) served.entities served.functions served.naming served.written (asked_plain i.request served.context)
+
   pub is_kept_by : IsKept i store table depth (policy_seen p) (kept_of p answer)
   is_kept_by =
       let bs = bindings_of p in
       let t = condition_of p in
       is_kept i store table depth p answer
       (λ facts served. subst (λ (h : LeafAnswers). JudgesAt (partial_in facts h t) answer) (is.holds bs)
-      (found facts (is.serves facts t served.entities served.functions served.names_nothing) (known facts served.entities)))
-      (λ met facts served. deep_as answers i store table depth ev is facts bs t
-      (limit met facts (is.serves facts t served.entities served.functions served.names_nothing) (known facts served.entities)))
+      (found facts (serves facts served) (known facts served.entities)))
+      (λ met facts served. deep_as answers i store table depth ev is facts bs t (limit met facts (serves facts served) (known facts served.entities)))
       (λ met facts has functions. nests_as answers i store table depth ev is facts bs t
       (named_limit met facts (knows answers i store table depth ev is facts has functions) (known facts has)))
       (λ facts served. subst (λ (h : LeafAnswers). JudgesReadAt (partial_in facts h (read_unknowns t)) answer) (is.holds bs)
-      (read facts (is.reads facts t served.entities served.functions served.naming served.written (asked_plain i.request served.context)) (known facts served.entities)))
+      (read facts (serves_read facts served) (known facts served.entities)))
       (λ met facts served. deep_read_as answers i store table depth ev is facts bs t
-      (read_limit met facts (is.reads facts t served.entities served.functions served.naming served.written (asked_plain i.request served.context)) (known facts served.entities)))
+      (read_limit met facts (serves_read facts served) (known facts served.entities)))
       keepable

@@ -122,12 +122,14 @@ pub record Keeps (with_false : Bool) (i : Inquiry) (store : Entities) (table : T
 -- for each inquiry that an evaluator and what is decided of scopes answer for
 abbrev pub ForEach : {F : Type 0} → (F → FunctionAnswers) → Evaluator F → Scopes → (Inquiry → Entities → Table → ℕ → Type 0) → Type 0
 ForEach answers ev scopes Holds =
-    (i : Inquiry) (store : Entities) (table : Table) (depth : ℕ) → IsEvaluatorOf answers i store table depth ev → AreScopesOf i store scopes → Holds i store table depth
+    (i : Inquiry) (store : Entities) (table : Table) (depth : ℕ) →
+    IsEvaluatorOf answers i store table depth ev → AreScopesOf i store scopes → Holds i store table depth
 
 -- for each of them this is told of the policy
 abbrev pub IsToldBy : {F : Type 0} → (F → FunctionAnswers) → Evaluator F → Scopes → Policy → Told → Type 0
 IsToldBy answers ev scopes p told =
-    ForEach answers ev scopes (λ i store table depth. (facts : Facts) → HasFacts store facts → Tells facts (request_held i (bindings_of p)) p (condition_of p) told)
+    ForEach answers ev scopes (λ i store table depth. (facts : Facts) → HasFacts store facts →
+    Tells facts (request_held i (bindings_of p)) p (condition_of p) told)
 
 -- by these, for each such inquiry
 abbrev pub KeepsBy : {F : Type 0} → (F → FunctionAnswers) → Bool → Evaluator F → Scopes → Entries → Response → Type 0

@@ -21,7 +21,7 @@ use cedar_values::values::Value;
 use std::alloc::{AllocError, Global};
 use std::collections::BTreeMap;
 use std::fmt;
-use std::rc::RcStr;
+use std::rc::{Rc, RcStr};
 
 /// Answers requests by policies and entities; policies may call the functions of its extensions, and no
 /// evaluation nests deeper than its limit. Contracts see these by `table_of` and `limit_of`.
@@ -133,7 +133,7 @@ fn responded<F: ExtensionFunctionObject>(
 {
     let _count = policies.len();
     let scopes = Scopes::new(entities, evaluator);
-    let mut response = PartialResponse::empty(alloc, request)?;
+    let mut response = PartialResponse::empty(alloc, Rc::new(alloc, request)?);
     response.gather(alloc, evaluator, &scopes, policies, with_false)?;
     Ok(response)
 }

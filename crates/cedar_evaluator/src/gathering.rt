@@ -69,12 +69,12 @@ fn noted(policy: &Policy) -> Result<(PolicyID, Rc<Annotations>), AllocError>
 }
 
 impl PartialResponse {
-    /// The response to a request of which nothing is found yet; refused for memory alone.
-    pub(crate) fn empty(alloc: Global, request: Request) -> Result<PartialResponse, AllocError>
-        ensures none { IfOk result (λ response. holding_in response ≡ holding_of []) }
-        ensures asked { IfOk result (λ response. request_asked response ≡ request_parts request) }
+    /// The response to a request of which nothing is found yet; takes no memory.
+    pub(crate) fn empty(alloc: Global, request: Rc<Request>) -> PartialResponse
+        ensures none { holding_in result ≡ holding_of [] }
+        ensures asked { request_asked result ≡ request_parts request.value }
     {
-        Ok(PartialResponse {
+        PartialResponse {
             satisfied_permits: PolicyMap::new(alloc),
             false_permits: PolicyMap::new(alloc),
             residual_permits: PolicyMap::new(alloc),
@@ -82,8 +82,8 @@ impl PartialResponse {
             false_forbids: PolicyMap::new(alloc),
             residual_forbids: PolicyMap::new(alloc),
             errors: Vec::new(alloc),
-            request: Rc::new(alloc, request)?,
-        })
+            request,
+        }
     }
 
     /// Keeps what each policy of a set, a static policy or a link, comes to, in their order, those that aren't

@@ -11,8 +11,9 @@ pub returns : goal.returns
 returns g c = λ i store table depth is by.
     let es = c.args.policies.now in
     let apart = IsDistinct-keys_filter same_text (λ e. is_policy e.1) es c.len-count.ensures.whole.distinct in
-    responds c.args.with_false i store table depth es c.gather.new.self (c.in_ok-gather.ensures.keeps i store table depth by (c.new-scopes.ensures i store table depth by)) apart
-    (ap (λ r. request_parts r.value) c.gather.ensures.same ∙ c.in_ok-response.ensures.asked ∙ sym is)
+    let keeps = c.in_ok-gather.ensures.keeps i store table depth by (c.new-scopes.ensures i store table depth by) in
+    responds c.args.with_false i store table depth es c.gather.new.self keeps apart
+    (ap (λ r. request_parts r.value) c.gather.ensures.same ∙ c.empty-response.ensures.asked ∙ ap request_parts c.in_ok-new.ensures.ok ∙ sym is)
 
 pub gather-requires-clause-apart : goal.gather-requires-clause-apart
 gather-requires-clause-apart g c = IsDistinct-keys_filter same_text (λ e. is_policy e.1) c.args.policies.now c.len-count.ensures.whole.distinct

@@ -33,7 +33,8 @@ returns-in-None-non_scope_constraints-clause-found g c = λ i store table depth 
     let s = policy_syntax c.args.policy.now in
     let holds = request_held i (bindings_of c.args.policy.now) in
     let body : s.body ≡ None = sym c.non_scope_constraints.ensures ∙ ap (λ o. option_map bare (option_copied o)) c.in-None-non_scope_constraints.is in
-    told_by_scope facts holds s (scope_decided facts holds s c.hold.result _ _ c.in-Some-true.is c.in-Some-true.field-0-test (c.hold.ensures i store facts scopes has)) body
+    told_by_scope facts holds s
+    (scope_decided facts holds s c.hold.result _ _ c.in-Some-true.is c.in-Some-true.field-0-test (c.hold.ensures i store facts scopes has)) body
 
 pub returns-in-Some-glance-clause-found : goal.returns-in-Some-glance-clause-found
 returns-in-Some-glance-clause-found g c = λ i store table depth is scopes facts has.
@@ -62,7 +63,8 @@ returns-in-None-non_scope_constraints-clause-read g c = λ i store table depth i
     let s = policy_syntax c.args.policy.now in
     let holds = request_held i (bindings_of c.args.policy.now) in
     let body : s.body ≡ None = sym c.non_scope_constraints.ensures ∙ ap (λ o. option_map bare (option_copied o)) c.in-None-non_scope_constraints.is in
-    told_by_scope_read s facts holds (scope_decided facts holds s c.hold.result _ _ c.in-Some-true.is c.in-Some-true.field-0-test (c.hold.ensures i store facts scopes served.entities)) body
+    let told = c.hold.ensures i store facts scopes served.entities in
+    told_by_scope_read s facts holds (scope_decided facts holds s c.hold.result _ _ c.in-Some-true.is c.in-Some-true.field-0-test told) body
 
 pub returns-in-Some-glance-clause-read : goal.returns-in-Some-glance-clause-read
 returns-in-Some-glance-clause-read g c = λ i store table depth is scopes facts served.
@@ -72,8 +74,10 @@ returns-in-Some-glance-clause-read g c = λ i store table depth is scopes facts 
     let bs = bindings_of c.args.policy.now in
     let holds = request_held i bs in
     let body : s.body ≡ Some t = sym c.non_scope_constraints.ensures ∙ ap (λ o. option_map bare (option_copied o)) c.in-Some.is in
-    let scope = scope_decided facts holds s c.hold.result _ _ c.in-Some-true.is c.in-Some-true.field-0-test (c.hold.ensures i store facts scopes served.entities) in
-    let serves = is.reads facts (condition_of c.args.policy.now) served.entities served.functions served.naming served.written (asked_plain i.request served.context) in
+    let told = c.hold.ensures i store facts scopes served.entities in
+    let scope = scope_decided facts holds s c.hold.result _ _ c.in-Some-true.is c.in-Some-true.field-0-test told in
+    let plain = asked_plain i.request served.context in
+    let serves = is.reads facts (condition_of c.args.policy.now) served.entities served.functions served.naming served.written plain in
     subst (IsDecided facts holds (read_unknowns (condition_of c.args.policy.now))) c.in-Some-glance.is
     (told_by_clauses_read s facts holds scope t body c.glance.result
     (subst (λ (h : LeafAnswers). IfSome c.glance.result (λ b. partial_in facts h (read_unknowns t) ≡ Evaluated (Plain (Boolean b)))) (is.holds bs)

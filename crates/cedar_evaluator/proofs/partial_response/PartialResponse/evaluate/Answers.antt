@@ -17,7 +17,8 @@ returns-in-Decided-true-clause-keeps g c =
     (λ adds es keeps.
     keeps_more answers c.args.with_false ev c.args.scopes.now es c.args.self.now c.keep_satisfied.new.self p Satisfied keeps adds
     (λ i store table depth is scopes.
-    is_kept_told i store table depth p here.field-0 true here.field-0-test (here.ensures.found i store table depth is scopes) (here.ensures.read i store table depth is scopes)))
+    is_kept_told i store table depth p here.field-0 true here.field-0-test
+    (here.ensures.found i store table depth is scopes) (here.ensures.read i store table depth is scopes)))
     (c.keep_satisfied.ensures.held c.args.with_false)
 
 pub returns-in-Decided-false-clause-keeps : goal.returns-in-Decided-false-clause-keeps
@@ -32,5 +33,6 @@ returns-in-Decided-false-clause-keeps g c =
     (λ adds es keeps.
     keeps_more answers c.args.with_false ev c.args.scopes.now es before after p Unsatisfied keeps (adds_unsatisfied c.args.with_false p before after adds)
     (λ i store table depth is scopes.
-    is_kept_told i store table depth p here.field-0 false here.field-0-test (here.ensures.found i store table depth is scopes) (here.ensures.read i store table depth is scopes)))
+    is_kept_told i store table depth p here.field-0 false here.field-0-test
+    (here.ensures.found i store table depth is scopes) (here.ensures.read i store table depth is scopes)))
     (c.keep_false.ensures.held Unsatisfied refl)

@@ -23,8 +23,11 @@ returns-in-InScope-clause-keeps g c = λ scopes said.
     (λ held keepable es keeps.
     keeps_more answers c.args.with_false ev scopes es c.args.self.now c.keep.new.self p (found_in answer) keeps held
     (λ i store table depth is by.
-    is_kept_by answers ev p answer (λ facts. IsInScope ev facts p) given.found given.limit given.named_limit given.read given.read_limit keepable i store table depth is
-    (λ facts has. ap (λ (h : LeafAnswers). partial_in facts h (scope_tree (policy_syntax p))) (is.holds (bindings_of p)) ∙ holds i store table depth is by facts has)))
+    is_kept_by answers ev p answer (λ facts. IsInScope ev facts p)
+    given.found given.limit given.named_limit given.read given.read_limit keepable i store table depth is
+    (λ facts has.
+    ap (λ (h : LeafAnswers). partial_in facts h (scope_tree (policy_syntax p))) (is.holds (bindings_of p))
+    ∙ holds i store table depth is by facts has)))
     c.keep.ensures.held c.keep.ensures.keepable
 
 pub returns-in-Unsaid-clause-keeps : goal.returns-in-Unsaid-clause-keeps
@@ -38,7 +41,9 @@ returns-in-Unsaid-clause-keeps g c = λ scopes said.
     (λ held keepable es keeps.
     keeps_more answers c.args.with_false ev scopes es c.args.self.now c.keep-in-Unsaid.new.self p (found_in answer) keeps held
     (λ i store table depth is by.
-    is_kept_by answers ev p answer (λ facts. ⊤) (λ facts serves any. given.found facts serves) (λ met facts serves any. given.limit met facts serves)
-    (λ met facts knows any. given.named_limit met facts knows) (λ facts serves any. given.read facts serves) (λ met facts serves any. given.read_limit met facts serves)
+    is_kept_by answers ev p answer (λ facts. ⊤)
+    (λ facts serves any. given.found facts serves) (λ met facts serves any. given.limit met facts serves)
+    (λ met facts knows any. given.named_limit met facts knows)
+    (λ facts serves any. given.read facts serves) (λ met facts serves any. given.read_limit met facts serves)
     keepable i store table depth is (λ facts has. tt)))
     c.keep-in-Unsaid.ensures.held c.keep-in-Unsaid.ensures.keepable

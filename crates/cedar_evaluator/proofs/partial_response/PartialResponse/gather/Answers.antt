@@ -10,7 +10,8 @@ use Rattle.cedar_evaluator.proofs.Passed.{candidates_apart, candidates_keep}
 use Rattle.cedar_evaluator.proofs.partial_response.PartialResponse.gather.Goals as goal
 
 -- what holds of what is found holds of its items, as they are lent
-of_found : {X : Type 0} (P : List ℕ → Type 0) (items : X → List ℕ) {o : Option X} {x : X} {lent : List ℕ} → o ≡ Some x → lent ≡ items x → IfSome o (λ y. P (items y)) → P lent
+of_found : {X : Type 0} (P : List ℕ → Type 0) (items : X → List ℕ) {o : Option X} {x : X} {lent : List ℕ}
+    → o ≡ Some x → lent ≡ items x → IfSome o (λ y. P (items y)) → P lent
 of_found P items is same found = subst P (sym same) (subst (λ o. IfSome o (λ y. P (items y))) is found)
 
 pub gather_at-requires-clause-apart : goal.gather_at-requires-clause-apart
@@ -21,7 +22,8 @@ gather_at-requires-clause-apart g c =
 pub returns-in-Some-clause-keeps : goal.returns-in-Some-clause-keeps
 returns-in-Some-clause-keeps g c =
     let es = c.args.policies.now in
-    let candidates = of_found (AreCandidatesBy c.args.scopes.now es) (λ positions. positions.items) c.in-Some.is c.deref.ensures.value c.in_ok-positions.ensures.whole in
+    let found = c.in_ok-positions.ensures.whole in
+    let candidates = of_found (AreCandidatesBy c.args.scopes.now es) (λ positions. positions.items) c.in-Some.is c.deref.ensures.value found in
     on_ok_weaker c.gather_at.result
     (λ keeps i store table depth is scopes.
     subst (λ (b : Bool). Keeps b i store table depth (policies_of es) c.gather_at.new.self) (sym c.if-with_false.false)

@@ -17,13 +17,15 @@ returns-in-Ok-Left-false-clause-held c =
     let after = c.keep_false.new.self in
     let answered : c.args.answer ≡ Ok (Left false) = cc in
     on_ok_weaker c.keep_false.result
-    (λ adds. subst (λ (f : Found). Adds c.args.with_false (kept_as p f) before after) (sym (ap found_in answered)) (adds_unsatisfied c.args.with_false p before after adds))
+    (λ adds. subst (λ (f : Found). Adds c.args.with_false (kept_as p f) before after) (sym (ap found_in answered))
+    (adds_unsatisfied c.args.with_false p before after adds))
     (c.keep_false.ensures.held Unsatisfied refl)
 
 pub returns-in_ok-new-in-Ok-Right-clause-held : goal.returns-in_ok-new-in-Ok-Right-clause-held
 returns-in_ok-new-in-Ok-Right-clause-held c =
     let answered : c.args.answer ≡ Ok (Right c.in-Ok-Right.rest) = cc in
-    let same : Open (bare c.in_ok-new-in-Ok-Right.field-0.value) ≡ found_in c.args.answer = ap (λ (e : Expr (Unit {0})). Open (bare e)) c.in_ok-new-in-Ok-Right.ensures.ok ∙ sym (ap found_in answered) in
+    let same : Open (bare c.in_ok-new-in-Ok-Right.field-0.value) ≡ found_in c.args.answer =
+    ap (λ (e : Expr (Unit {0})). Open (bare e)) c.in_ok-new-in-Ok-Right.ensures.ok ∙ sym (ap found_in answered) in
     on_ok_weaker c.keep_open.result
     (subst (λ (f : Found). Adds c.args.with_false (kept_as c.args.policy.now f) c.args.self.now c.keep_open.new.self) same)
     (c.keep_open.ensures.held c.args.with_false)

@@ -17,9 +17,14 @@ returns-clause-held c =
     let before = c.args.self.now in
     let told = failure_of c.args.error in
     let own : c.in_ok-id.id ≡ policy_id p = search rules in
-    let errors = ap (map error_seen) c.in_ok-push.ensures.items ∙ map_push error_seen before.errors.items (PolicyEvaluationError c.in_ok-id.id c.args.error) ∙ ap (λ (id : Text). map error_seen before.errors.items ++ (id, told) ∷ []) own in
+    let seen = map error_seen before.errors.items in
+    let errors =
+    ap (map error_seen) c.in_ok-push.ensures.items
+    ∙ map_push error_seen before.errors.items (PolicyEvaluationError c.in_ok-id.id c.args.error)
+    ∙ ap (λ (id : Text). seen ++ (id, told) ∷ []) own in
     on_ok_weaker c.keep_false.result
-    (adds_erring c.args.with_false p before c.keep_false.new.self told (record before { errors = c.push.new.self }) (λ i. record (holding_in before) { errors = errors i }))
+    (adds_erring c.args.with_false p before c.keep_false.new.self told (record before { errors = c.push.new.self })
+    (λ i. record (holding_in before) { errors = errors i }))
     (c.keep_false.ensures.held (Erred told) refl)
 
 pub keep_false-requires : goal.keep_false-requires

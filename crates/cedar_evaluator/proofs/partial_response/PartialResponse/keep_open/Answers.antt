@@ -7,12 +7,16 @@ use Rattle.cedar_evaluator.proofs.partial_response.PartialResponse.keep_open.Goa
 
 pub returns-in-Permit-clause-held : goal.returns-in-Permit-clause-held
 returns-in-Permit-clause-held c = λ with_false.
+    let p = c.args.policy.now in
+    let effect = sym (ap effect_of c.in-Permit.is) ∙ c.effect.ensures in
     on_ok_weaker c.push.result
-    (open_permit with_false c.args.self.now c.args.policy.now (c.in_ok-id.id, c.in_ok-id.annotations) c.in_ok-id.ensures c.args.rest (sym (ap effect_of c.in-Permit.is) ∙ c.effect.ensures) c.push.new.self)
+    (open_permit with_false c.args.self.now p (c.in_ok-id.id, c.in_ok-id.annotations) c.in_ok-id.ensures c.args.rest effect c.push.new.self)
     c.push.ensures.pushed
 
 pub returns-in-Forbid-clause-held : goal.returns-in-Forbid-clause-held
 returns-in-Forbid-clause-held c = λ with_false.
+    let p = c.args.policy.now in
+    let effect = sym (ap effect_of c.in-Forbid.is) ∙ c.effect.ensures in
     on_ok_weaker c.push-in-Forbid.result
-    (open_forbid with_false c.args.self.now c.args.policy.now (c.in_ok-id.id, c.in_ok-id.annotations) c.in_ok-id.ensures c.args.rest (sym (ap effect_of c.in-Forbid.is) ∙ c.effect.ensures) c.push-in-Forbid.new.self)
+    (open_forbid with_false c.args.self.now p (c.in_ok-id.id, c.in_ok-id.annotations) c.in_ok-id.ensures c.args.rest effect c.push-in-Forbid.new.self)
     c.push-in-Forbid.ensures.pushed
