@@ -14,17 +14,19 @@ returns-then-not-with_false-clause-held c = λ found fits.
 pub returns-in-Permit-clause-held : goal.returns-in-Permit-clause-held
 returns-in-Permit-clause-held c = λ found fits.
     let p = c.args.policy.now in
-    let kept = (c.in_ok-id.id, c.in_ok-id.annotations) in
+    let state = c.args.state in
     let effect = sym (ap effect_of c.in-Permit.is) ∙ c.effect.ensures in
     on_ok_weaker c.push.result
-    (false_permit c.args.with_false c.args.self.now p kept c.in_ok-id.ensures (cc) c.args.state found fits effect c.push.new.self)
+    (false_permit c.args.with_false c.args.self.now p (c.in_ok-id.id, c.in_ok-id.annotations) c.in_ok-id.ensures (cc)
+    state found fits effect c.push.new.self)
     c.push.ensures.pushed
 
 pub returns-in-Forbid-clause-held : goal.returns-in-Forbid-clause-held
 returns-in-Forbid-clause-held c = λ found fits.
     let p = c.args.policy.now in
-    let kept = (c.in_ok-id.id, c.in_ok-id.annotations) in
+    let state = c.args.state in
     let effect = sym (ap effect_of c.in-Forbid.is) ∙ c.effect.ensures in
     on_ok_weaker c.push-in-Forbid.result
-    (false_forbid c.args.with_false c.args.self.now p kept c.in_ok-id.ensures (cc) c.args.state found fits effect c.push-in-Forbid.new.self)
+    (false_forbid c.args.with_false c.args.self.now p (c.in_ok-id.id, c.in_ok-id.annotations) c.in_ok-id.ensures (cc)
+    state found fits effect c.push-in-Forbid.new.self)
     c.push-in-Forbid.ensures.pushed
