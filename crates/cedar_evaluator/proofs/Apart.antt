@@ -1,5 +1,5 @@
 -- The ids of each group are some of those that are kept, so that one that isn't among these stands in no group.
-use Rattle.std.proofs.Common.{◌≡◌, Bool, true, false, ◌||◌, Option, Some, None, List, [], ◌∷◌, map, refl, sym, ◌∙◌, ap, true≢false}
+use Rattle.std.proofs.Common.{◌≡◌, Bool, true, false, ◌||◌, Option, Some, None, List, [], ◌∷◌, map, refl, sym, ◌∙◌, ap}
 use Rattle.std.specs.List.{filter_map, cons_option}
 use Rattle.std.specs.Map.{lookup, keys_of}
 use Rattle.std.specs.Set.{is_member}
@@ -14,10 +14,10 @@ use Rattle.cedar_policies.specs.declared.policies.Policy.{Policy}
 use Rattle.cedar_policy_set.proofs.Finding.{none_from}
 use Rattle.cedar_trees.specs.Bare.{bare}
 use Rattle.cedar_evaluator.specs.Evaluations.{Found, Satisfied, Unsatisfied, Erred, Open, Kept}
-use Rattle.cedar_evaluator.specs.Grouping.{held_in, held_with, ids_of, IsNew}
-use Rattle.cedar_evaluator.specs.Holding.{has_erred}
+use Rattle.cedar_evaluator.specs.Grouping.{held_with, ids_of, IsNew}
+use Rattle.cedar_evaluator.specs.Holding.{has_erred, holding_in}
 use Rattle.cedar_evaluator.specs.Responses.{Holding, if_effect, satisfied_id, false_id, open_id, satisfied_of, false_of, open_of, holding_of, without_false}
-use Rattle.cedar_evaluator.specs.declared.groups.Groups.{Groups}
+use Rattle.cedar_evaluator.specs.declared.partial_response.PartialResponse.{PartialResponse}
 use Rattle.std.proofs.lemmas.Bool.{or_parts as either_false}
 
 -- ---- any group
@@ -82,25 +82,25 @@ module _ (e : Effect) (ks : List Kept) (id : Text) (free : is_member same_text (
 
 -- ---- all groups
 
-module _ (p : Policy) (g : Groups) where
+module _ (p : Policy) (r : PartialResponse) where
   -- none of these is the policy's id
   abbrev IsOther : List Text → Type 0
   IsOther ids = is_member same_text ids (policy_id p) ≡ false
 
-  new_by : (h : Holding) → held_in g ≡ h → IsOther h.satisfied_permits → IsOther (keys_of h.false_permits) → IsOther (keys_of h.open_permits) → IsOther h.satisfied_forbids → IsOther (keys_of h.false_forbids) → IsOther (keys_of h.open_forbids) → IsNew p g
+  new_by : (h : Holding) → holding_in r ≡ h → IsOther h.satisfied_permits → IsOther (keys_of h.false_permits) → IsOther (keys_of h.open_permits) → IsOther h.satisfied_forbids → IsOther (keys_of h.false_forbids) → IsOther (keys_of h.open_forbids) → IsNew p r
   new_by h is satisfied_permits false_permits open_permits satisfied_forbids false_forbids open_forbids =
       let id = policy_id p in
       record {
-        satisfied_permits = nothing_at g.satisfied_permits h.satisfied_permits id (ap (λ (k : Holding). k.satisfied_permits) is) satisfied_permits;
-        false_permits = nothing_at g.false_permits (keys_of h.false_permits) id (sym (keys_of-map_values (λ v. has_erred v.0) g.false_permits) ∙ ap (λ (k : Holding). keys_of k.false_permits) is) false_permits;
-        open_permits = nothing_at g.residual_permits (keys_of h.open_permits) id (sym (keys_of-map_values (λ v. bare v.0.value) g.residual_permits) ∙ ap (λ (k : Holding). keys_of k.open_permits) is) open_permits;
-        satisfied_forbids = nothing_at g.satisfied_forbids h.satisfied_forbids id (ap (λ (k : Holding). k.satisfied_forbids) is) satisfied_forbids;
-        false_forbids = nothing_at g.false_forbids (keys_of h.false_forbids) id (sym (keys_of-map_values (λ v. has_erred v.0) g.false_forbids) ∙ ap (λ (k : Holding). keys_of k.false_forbids) is) false_forbids;
-        open_forbids = nothing_at g.residual_forbids (keys_of h.open_forbids) id (sym (keys_of-map_values (λ v. bare v.0.value) g.residual_forbids) ∙ ap (λ (k : Holding). keys_of k.open_forbids) is) open_forbids;
+        satisfied_permits = nothing_at r.satisfied_permits h.satisfied_permits id (ap (λ (k : Holding). k.satisfied_permits) is) satisfied_permits;
+        false_permits = nothing_at r.false_permits (keys_of h.false_permits) id (sym (keys_of-map_values (λ v. has_erred v.0) r.false_permits) ∙ ap (λ (k : Holding). keys_of k.false_permits) is) false_permits;
+        open_permits = nothing_at r.residual_permits (keys_of h.open_permits) id (sym (keys_of-map_values (λ v. bare v.0.value) r.residual_permits) ∙ ap (λ (k : Holding). keys_of k.open_permits) is) open_permits;
+        satisfied_forbids = nothing_at r.satisfied_forbids h.satisfied_forbids id (ap (λ (k : Holding). k.satisfied_forbids) is) satisfied_forbids;
+        false_forbids = nothing_at r.false_forbids (keys_of h.false_forbids) id (sym (keys_of-map_values (λ v. has_erred v.0) r.false_forbids) ∙ ap (λ (k : Holding). keys_of k.false_forbids) is) false_forbids;
+        open_forbids = nothing_at r.residual_forbids (keys_of h.open_forbids) id (sym (keys_of-map_values (λ v. bare v.0.value) r.residual_forbids) ∙ ap (λ (k : Holding). keys_of k.open_forbids) is) open_forbids;
       }
 
   -- a policy whose id isn't among those that are kept is new
-  pub is_new : (with_false : Bool) (ks : List Kept) → held_in g ≡ held_with with_false (holding_of ks) → is_member same_text (ids_of ks) (policy_id p) ≡ false → IsNew p g
+  pub is_new : (with_false : Bool) (ks : List Kept) → holding_in r ≡ held_with with_false (holding_of ks) → is_member same_text (ids_of ks) (policy_id p) ≡ false → IsNew p r
   is_new true ks holds free =
       let id = policy_id p in
       new_by (holding_of ks) holds (satisfied_free Permit ks id free) (false_free Permit ks id free) (open_free Permit ks id free) (satisfied_free Forbid ks id free) (false_free Forbid ks id free) (open_free Forbid ks id free)

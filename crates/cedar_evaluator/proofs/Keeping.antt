@@ -17,13 +17,11 @@ use Rattle.cedar_policies.specs.Policies.{policy_id}
 use Rattle.cedar_policies.specs.declared.policies.Policy.{Policy}
 use Rattle.cedar_policy_set.specs.Bounds.{policy_seen}
 use Rattle.cedar_policy_set.specs.Entries.{Entry, Entries, policies_of}
-use Rattle.cedar_requests.specs.Holding.{RequestParts}
 use Rattle.cedar_evaluator.specs.Authorizing.{RespondsWith}
 use Rattle.cedar_evaluator.specs.Evaluations.{Found, Kept, IsKept, AreKept}
-use Rattle.cedar_evaluator.specs.Grouping.{held_in, and_then, with_annotated, with_kept, kept_as, held_with, ids_of, Adds, ForEach, IsNew, Keeps, KeepsBy, KeepsEach}
+use Rattle.cedar_evaluator.specs.Grouping.{and_then, with_annotated, with_kept, kept_as, held_with, ids_of, Adds, ForEach, IsNew, Keeps, KeepsBy, KeepsEach}
 use Rattle.cedar_evaluator.specs.Holding.{request_asked, holding_in}
 use Rattle.cedar_evaluator.specs.Responses.{if_effect, satisfied_id, false_id, open_id, error_id, annotated, annotated_of, errors_of, holding_of}
-use Rattle.cedar_evaluator.specs.declared.groups.Groups.{Groups}
 use Rattle.cedar_evaluator.specs.declared.partial_response.PartialResponse.{PartialResponse}
 use Rattle.cedar_evaluator.specs.declared.scopes.Scopes.{Scopes}
 use Rattle.cedar_evaluator.proofs.Apart.{is_new}
@@ -68,7 +66,8 @@ none_kept false = refl
 -- ---- of the policies of a set
 
 module _ (with_false : Bool) (i : Inquiry) (store : Entities) (table : Table) (depth : ℕ) where
-  each_more : (es : Entries) (ks : List Kept) (e : Text × Entry) (k : Kept) → AreKept i store table depth es ks → IsKept i store table depth e k → AreKept i store table depth (es ++ e ∷ []) (ks ++ k ∷ [])
+  each_more : (es : Entries) (ks : List Kept) (e : Text × Entry) (k : Kept) → AreKept i store table depth es ks
+      → IsKept i store table depth e k → AreKept i store table depth (es ++ e ∷ []) (ks ++ k ∷ [])
   each_more [] [] e k each this = (this, tt)
   each_more [] (j ∷ ks) e k each this = absurd each
   each_more (d ∷ es) [] e k each this = absurd each
@@ -80,42 +79,48 @@ module _ (with_false : Bool) (i : Inquiry) (store : Entities) (table : Table) (d
   ids_kept (e ∷ es) [] each = absurd each
   ids_kept (e ∷ es) (k ∷ ks) each = λ j. each.0.id j ∷ ids_kept es ks each.1 j
 
-  ids_apart : (es : Entries) (g : Groups) (keeps : Keeps with_false i store table depth es g) → IsDistinct same_text (keys_of es) → IsDistinct same_text (ids_of keeps.kept)
-  ids_apart es g keeps apart = subst (IsDistinct same_text) (sym (ids_kept es keeps.kept keeps.each)) apart
+  ids_apart : (es : Entries) (r : PartialResponse) (keeps : Keeps with_false i store table depth es r)
+      → IsDistinct same_text (keys_of es) → IsDistinct same_text (ids_of keeps.kept)
+  ids_apart es r keeps apart = subst (IsDistinct same_text) (sym (ids_kept es keeps.kept keeps.each)) apart
 
   responds_with : (b : Bool) (es : Entries) (ks : List Kept) → AreKept i store table depth (policies_of es) ks → IsDistinct same_text (ids_of ks)
-      → (response : PartialResponse) → holding_in response ≡ held_with b (holding_of ks) → request_asked response ≡ i.request → RespondsWith b i store table depth es response
-  responds_with true es ks each apart response holds asked = record { kept = ks; each = each; holds = holds; asked = asked; apart = left_apart true response ks holds apart }
-  responds_with false es ks each apart response holds asked = record { kept = ks; each = each; holds = holds; asked = asked; apart = left_apart false response ks holds apart }
+      → (r : PartialResponse) → holding_in r ≡ held_with b (holding_of ks) → request_asked r ≡ i.request → RespondsWith b i store table depth es r
+  responds_with true es ks each apart r holds asked = record { kept = ks; each = each; holds = holds; asked = asked; apart = left_apart true r ks holds apart }
+  responds_with false es ks each apart r holds asked = record { kept = ks; each = each; holds = holds; asked = asked; apart = left_apart false r ks holds apart }
 
-  -- the response that is made of groups which keep the policies of a set
-  pub responds : (es : Entries) (g : Groups) (keeps : Keeps with_false i store table depth (policies_of es) g) → IsDistinct same_text (keys_of (policies_of es))
-      → (response : PartialResponse) → holding_in response ≡ held_in g → {r : RequestParts} → request_asked response ≡ r → i.request ≡ r → RespondsWith with_false i store table depth es response
-  responds es g keeps apart response holds asked is =
-      responds_with with_false es keeps.kept keeps.each (ids_apart (policies_of es) g keeps apart) response
-      (holds ∙ keeps.holds) (asked ∙ sym is)
+  -- a response that keeps the policies of a set
+  pub responds : (es : Entries) (r : PartialResponse) → Keeps with_false i store table depth (policies_of es) r
+      → IsDistinct same_text (keys_of (policies_of es)) → request_asked r ≡ i.request → RespondsWith with_false i store table depth es r
+  responds es r keeps apart asked = responds_with with_false es keeps.kept keeps.each (ids_apart (policies_of es) r keeps apart) r keeps.holds asked
 
 -- ---- for each inquiry
 
 module _ {F : Type 0} (answers : F → FunctionAnswers) (with_false : Bool) (ev : Evaluator F) (scopes : Scopes) where
-  pub keeps_none : (g : Groups) → held_in g ≡ holding_of [] → KeepsEach answers with_false ev scopes [] g
-  keeps_none g none = record { kept = []; ids = refl; each = λ i store table depth is by. tt; holds = none ∙ sym (none_kept with_false) }
+  pub keeps_none : (r : PartialResponse) → holding_in r ≡ holding_of [] → KeepsEach answers with_false ev scopes [] r
+  keeps_none r none = record { kept = []; ids = refl; each = λ i store table depth is by. tt; holds = none ∙ sym (none_kept with_false) }
 
-  pub keeps_more : (es : Entries) (g h : Groups) (p : Policy) (found : Found) → KeepsEach answers with_false ev scopes es g → Adds with_false (kept_as p found) g h
+  pub keeps_more : (es : Entries) (r h : PartialResponse) (p : Policy) (found : Found)
+      → KeepsEach answers with_false ev scopes es r → Adds with_false (kept_as p found) r h
       → ForEach answers ev scopes (λ i store table depth. IsKept i store table depth (policy_seen p) (kept_as p found))
       → KeepsEach answers with_false ev scopes (es ++ policy_seen p ∷ []) h
-  keeps_more es g h p found keeps more this =
+  keeps_more es r h p found keeps more this =
       let k = kept_as p found in
       record {
         kept = keeps.kept ++ k ∷ [];
-        ids = map-append (λ (j : Kept). j.id) keeps.kept (k ∷ []) ∙ ap (λ ids. ids ++ policy_id p ∷ []) keeps.ids ∙ sym (map-append (λ e. e.0) es (policy_seen p ∷ []));
-        each = λ i store table depth is by. each_more with_false i store table depth es keeps.kept (policy_seen p) k (keeps.each i store table depth is by) (this i store table depth is by);
+        ids =
+            map-append (λ (j : Kept). j.id) keeps.kept (k ∷ [])
+            ∙ ap (λ ids. ids ++ policy_id p ∷ []) keeps.ids
+            ∙ sym (map-append (λ e. e.0) es (policy_seen p ∷ []));
+        each = λ i store table depth is by.
+            each_more with_false i store table depth es keeps.kept (policy_seen p) k
+            (keeps.each i store table depth is by) (this i store table depth is by);
         holds = more keeps.kept keeps.holds;
       }
 
-  pub keeps_by : (es : Entries) (g : Groups) → KeepsEach answers with_false ev scopes es g → KeepsBy answers with_false ev scopes es g
-  keeps_by es g keeps = λ i store table depth is by. record { kept = keeps.kept; each = keeps.each i store table depth is by; holds = keeps.holds }
+  pub keeps_by : (es : Entries) (r : PartialResponse) → KeepsEach answers with_false ev scopes es r → KeepsBy answers with_false ev scopes es r
+  keeps_by es r keeps = λ i store table depth is by. record { kept = keeps.kept; each = keeps.each i store table depth is by; holds = keeps.holds }
 
   -- a policy whose id isn't among those of the policies so far is new
-  pub next_new : (es : Entries) (g : Groups) (p : Policy) → KeepsEach answers with_false ev scopes es g → is_member same_text (keys_of es) (policy_id p) ≡ false → IsNew p g
-  next_new es g p keeps free = is_new p g with_false keeps.kept keeps.holds (ap (λ ids. is_member same_text ids (policy_id p)) keeps.ids ∙ free)
+  pub next_new : (es : Entries) (r : PartialResponse) (p : Policy)
+      → KeepsEach answers with_false ev scopes es r → is_member same_text (keys_of es) (policy_id p) ≡ false → IsNew p r
+  next_new es r p keeps free = is_new p r with_false keeps.kept keeps.holds (ap (λ ids. is_member same_text ids (policy_id p)) keeps.ids ∙ free)

@@ -6,6 +6,7 @@ mod Entered
 mod Adding
 mod Keeping
 mod Kept
+mod KeptBy
 mod Responding
 pub mod Deciding
 mod Reading

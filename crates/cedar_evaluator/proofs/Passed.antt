@@ -21,7 +21,7 @@ use Rattle.cedar_evaluator.specs.Candidates.{IsOutOfScope, AreCandidates, polici
 use Rattle.cedar_evaluator.specs.Evaluations.{Unsatisfied, bindings_in, Annotations, Kept, IsKept, AreKept}
 use Rattle.cedar_evaluator.specs.Grouping.{Keeps}
 use Rattle.cedar_evaluator.specs.Responses.{Annotated, Holding, if_effect, satisfied_id, open_id, error_id, annotated, holding_of, without_false}
-use Rattle.cedar_evaluator.specs.declared.groups.Groups.{Groups}
+use Rattle.cedar_evaluator.specs.declared.partial_response.PartialResponse.{PartialResponse}
 use Rattle.cedar_evaluator.proofs.HeldIds.{front_apart}
 use Rattle.cedar_evaluator.proofs.ReadConditions.{out_of_scope_read}
 use Rattle.cedar_evaluator.proofs.Scoped.{out_of_scope}
@@ -97,8 +97,8 @@ module _ (i : Inquiry) (store : Entities) (table : Table) (depth : ℕ) where
       record { all = unsatisfied e ∷ others.all; each = (out_kept e out, others.each); same = none_kept e.0 (syntax_in e.1).effect (syntax_in e.1).annotations others.all ∙ others.same }
 
   -- where nothing is asked of policies that aren't satisfied, the candidates are enough
-  pub candidates_keep : (es : Entries) (ps : List ℕ) (g : Groups) → AreCandidates i store es ps → Keeps false i store table depth (policies_at es ps) g → Keeps false i store table depth (policies_of es) g
-  candidates_keep es ps g candidates keeps =
+  pub candidates_keep : (es : Entries) (ps : List ℕ) (r : PartialResponse) → AreCandidates i store es ps → Keeps false i store table depth (policies_at es ps) r → Keeps false i store table depth (policies_of es) r
+  candidates_keep es ps r candidates keeps =
       let all = kept_of_all (thinned (IsOutOfScope i store) es ps candidates.rising candidates.whole) keeps.kept keeps.each in
       record { kept = all.all; each = all.each; holds = keeps.holds ∙ sym all.same }
 

@@ -21,6 +21,8 @@ use Rattle.cedar_policy_set.specs.ScopeFinding.{positions_at, others_of, is_list
 use Rattle.cedar_policy_set.specs.declared.scope_index.index.ScopeIndex.{ScopeIndex}
 use Rattle.cedar_policy_set.specs.declared.scope_index.positions.Positions.{Positions}
 use Rattle.cedar_evaluator.specs.Evaluations.{bindings_in}
+use Rattle.cedar_evaluator.specs.Scopes.{AreScopesOf}
+use Rattle.cedar_evaluator.specs.declared.scopes.Scopes.{Scopes}
 
 -- what is listed under each entity that passes the test is among these
 abbrev pub HasListed : Positions → (Uid → Bool) → List ℕ → Type 0
@@ -56,6 +58,10 @@ IsOutOfScope i store e = (facts : Facts) → HasFacts store facts → partial_in
 pub record AreCandidates (i : Inquiry) (store : Entities) (es : Entries) (ps : List ℕ) : Type 0 where
   pub rising : IsStrictlyIncreasing ps
   pub whole : (p : ℕ) (e : Text × Entry) → slice_get es p ≡ Some e → is_policy e.1 ≡ true → (is_listed ps p ≡ true) ⊎ IsOutOfScope i store e.1
+
+-- so it is for each inquiry and store of which these are the scopes
+abbrev pub AreCandidatesBy : Scopes → Entries → List ℕ → Type 0
+AreCandidatesBy scopes es ps = (i : Inquiry) (store : Entities) → AreScopesOf i store scopes → AreCandidates i store es ps
 
 -- the policies that stand at these positions
 abbrev pub policies_at : Entries → List ℕ → Entries

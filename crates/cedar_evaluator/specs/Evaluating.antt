@@ -16,23 +16,17 @@ use Rattle.cedar_partial_evaluation.specs.Early.{standing_of_answer}
 use Rattle.cedar_partial_evaluation.specs.Leaves.{is_left}
 use Rattle.cedar_partial_evaluation.specs.Mentions.{mentions_only}
 use Rattle.cedar_partial_evaluation.specs.Partial.{Answer, Evaluated, LeafAnswers, partial_in}
-use Rattle.cedar_partial_evaluation.specs.ReadUnknowns.{read_unknowns}
 use Rattle.cedar_policies.specs.Policies.{bindings_of, policy_syntax}
 use Rattle.cedar_policies.specs.declared.policies.Policy.{Policy}
 use Rattle.cedar_trees.specs.Bare.{bare}
 use Rattle.cedar_trees.specs.declared.expr.Expr.{Expr}
-use Rattle.cedar_entities.specs.declared.store.Entities.{Entities}
 use Rattle.cedar_extensions.specs.Answering.{FunctionAnswers}
 use Rattle.cedar_extensions.specs.Giving.{GivesBy}
-use Rattle.cedar_extensions.specs.Table.{Table}
 use Rattle.cedar_extensions.specs.declared.evaluation_error.EvaluationError.{EvaluationError}
 use Rattle.cedar_interpreter.specs.Asking.{is_known_in, IsHeldOf}
-use Rattle.cedar_evaluator.specs.Asking.{Inquiry, request_held, IsEvaluatorOf}
 use Rattle.cedar_interpreter.specs.Holding.{held_by, Knows, Serves, ServesRead}
 use Rattle.cedar_interpreter.specs.declared.evaluator.Evaluator.{Evaluator}
-use Rattle.cedar_evaluator.specs.Evaluations.{Found, Satisfied, Unsatisfied, Open, Finds, found_read, IsServed, IsServedRead}
-use Rattle.cedar_evaluator.specs.Scopes.{AreScopesOf}
-use Rattle.cedar_evaluator.specs.declared.scopes.Scopes.{Scopes}
+use Rattle.cedar_evaluator.specs.Evaluations.{Found, Satisfied, Unsatisfied, Open, Finds, found_read}
 
 -- the condition of a policy, its template's; slots stand there unbound
 abbrev pub condition_of : Policy → Tree
@@ -64,21 +58,9 @@ found_by (Right rest) = Open (bare rest)
 abbrev pub JudgesAt : Answer → Result (Either Bool (Expr (Unit {0}))) EvaluationError → Type 0
 JudgesAt b result = GivesBy (λ e. Finds b (found_by e)) (λ k. standing_of_answer b ≡ Erring k) ⊤ result
 
--- the answer to a policy's condition by an evaluator and what is decided of scopes, for each inquiry that these answer for
-abbrev pub JudgesBy : {F : Type 0} → (F → FunctionAnswers) → Evaluator F → Scopes → Policy → Result (Either Bool (Expr (Unit {0}))) EvaluationError → Type 0
-JudgesBy answers ev scopes p result =
-    (i : Inquiry) (store : Entities) (table : Table) (depth : ℕ) → IsEvaluatorOf answers i store table depth ev → AreScopesOf i store scopes →
-    (facts : Facts) → IsServed i store table depth facts (condition_of p) → JudgesAt (partial_in facts (request_held i (bindings_of p)) (condition_of p)) result
-
 -- the same where what is left is read
 abbrev pub JudgesReadAt : Answer → Result (Either Bool (Expr (Unit {0}))) EvaluationError → Type 0
 JudgesReadAt b result = GivesBy (λ e. Finds b (found_read (found_by e))) (λ k. standing_of_answer b ≡ Erring k) ⊤ result
-
--- the answer to the condition with unknowns in the places of its calls of `unknown`
-abbrev pub JudgesReadBy : {F : Type 0} → (F → FunctionAnswers) → Evaluator F → Scopes → Policy → Result (Either Bool (Expr (Unit {0}))) EvaluationError → Type 0
-JudgesReadBy answers ev scopes p result =
-    (i : Inquiry) (store : Entities) (table : Table) (depth : ℕ) → IsEvaluatorOf answers i store table depth ev → AreScopesOf i store scopes →
-    (facts : Facts) → IsServedRead i store table depth facts (condition_of p) → JudgesReadAt (partial_in facts (request_held i (bindings_of p)) (read_unknowns (condition_of p))) result
 
 -- ---- where nothing may be left
 

@@ -1,54 +1,32 @@
--- Policies in groups, by their effects and by what was found of them.
+-- What a response keeps of policies as they are gathered, by their effects and by what was found of them.
 use Rattle.std.specs.Prelude.{◌≡◌, ℕ, Bool, true, false, Option, Some, None, List, [], ◌∷◌, ◌++◌, map, Result, Ok, Err}
 use Rattle.std.specs.Map.{lookup, keys_of}
 use Rattle.either.specs.declared.Either.{Either}
 use Rattle.cedar_language.specs.Answering.{Permit, Forbid}
 use Rattle.cedar_language.specs.Order.{same_text}
+use Rattle.cedar_language.specs.Facts.{Facts}
 use Rattle.cedar_language.specs.Uid.{Text}
 use Rattle.cedar_entities.specs.declared.store.Entities.{Entities}
 use Rattle.cedar_extensions.specs.Answering.{FunctionAnswers}
 use Rattle.cedar_extensions.specs.Failures.{Failure, OfKind, LimitMet, MemoryRanOut, failure_of}
 use Rattle.cedar_extensions.specs.declared.evaluation_error.EvaluationError.{EvaluationError}
 use Rattle.cedar_extensions.specs.Table.{Table}
-use Rattle.cedar_evaluator.specs.Asking.{Inquiry, IsEvaluatorOf}
+use Rattle.cedar_operators.specs.Store.{HasFacts}
+use Rattle.cedar_evaluator.specs.Asking.{Inquiry, IsEvaluatorOf, request_held}
 use Rattle.cedar_interpreter.specs.declared.evaluator.Evaluator.{Evaluator}
-use Rattle.cedar_policies.specs.Policies.{policy_id, policy_syntax}
+use Rattle.cedar_policies.specs.Policies.{bindings_of, policy_id, policy_syntax}
 use Rattle.cedar_policies.specs.declared.policies.Policy.{Policy}
 use Rattle.cedar_policy_set.specs.Bounds.{policy_seen}
 use Rattle.cedar_policy_set.specs.Entries.{Entries}
-use Rattle.cedar_trees.specs.Bare.{bare}
 use Rattle.cedar_trees.specs.declared.expr.Expr.{Expr}
-use Rattle.cedar_evaluator.specs.Evaluating.{found_by}
+use Rattle.cedar_evaluator.specs.Evaluating.{condition_of, found_by}
 use Rattle.cedar_evaluator.specs.Evaluations.{Found, Erred, Kept, AreKept}
-use Rattle.cedar_evaluator.specs.Holding.{has_erred, error_seen, noted, noted_behind}
+use Rattle.cedar_evaluator.specs.Holding.{holding_in}
 use Rattle.cedar_evaluator.specs.Responses.{Annotated, Holding, if_effect, satisfied_id, false_id, open_id, error_id, annotated, errors_of, holding_of, without_false}
-use Rattle.cedar_evaluator.specs.Scopes.{AreScopesOf}
-use Rattle.cedar_evaluator.specs.declared.groups.Groups.{Groups}
+use Rattle.cedar_evaluator.specs.Scopes.{AreScopesOf, Tells}
+use Rattle.cedar_evaluator.specs.declared.judging.Told.{Told}
+use Rattle.cedar_evaluator.specs.declared.partial_response.PartialResponse.{PartialResponse as Response}
 use Rattle.cedar_evaluator.specs.declared.scopes.Scopes.{Scopes}
-
--- the annotations of the policies of each group, in their order
-abbrev pub annotated_so_far : Groups → Annotated
-annotated_so_far g = record {
-  satisfied_permits = map noted g.satisfied_permits;
-  false_permits = map noted_behind g.false_permits;
-  open_permits = map noted_behind g.residual_permits;
-  satisfied_forbids = map noted g.satisfied_forbids;
-  false_forbids = map noted_behind g.false_forbids;
-  open_forbids = map noted_behind g.residual_forbids;
-}
-
--- the policies of each group with their annotations, and the errors, in their order
-abbrev pub held_in : Groups → Holding
-held_in g = record {
-  satisfied_permits = keys_of g.satisfied_permits;
-  false_permits = map (λ e. (e.0, has_erred e.1.0)) g.false_permits;
-  open_permits = map (λ e. (e.0, bare e.1.0.value)) g.residual_permits;
-  satisfied_forbids = keys_of g.satisfied_forbids;
-  false_forbids = map (λ e. (e.0, has_erred e.1.0)) g.false_forbids;
-  open_forbids = map (λ e. (e.0, bare e.1.0.value)) g.residual_forbids;
-  errors = map error_seen g.errors.items;
-  annotated = annotated_so_far g;
-}
 
 -- one more at the end, where there is one
 abbrev pub and_then : {X : Type 0} → List X → Option X → List X
@@ -116,50 +94,57 @@ abbrev pub IsFree : {X : Type 0} → Policy → List (Text × X) → Type 0
 IsFree p es = lookup (same_text (policy_id p)) es ≡ None
 
 -- the policy's id stands in none of the groups
-pub record IsNew (p : Policy) (g : Groups) : Type 0 where
-  pub satisfied_permits : IsFree p g.satisfied_permits
-  pub false_permits : IsFree p g.false_permits
-  pub open_permits : IsFree p g.residual_permits
-  pub satisfied_forbids : IsFree p g.satisfied_forbids
-  pub false_forbids : IsFree p g.false_forbids
-  pub open_forbids : IsFree p g.residual_forbids
+pub record IsNew (p : Policy) (r : Response) : Type 0 where
+  pub satisfied_permits : IsFree p r.satisfied_permits
+  pub false_permits : IsFree p r.false_permits
+  pub open_permits : IsFree p r.residual_permits
+  pub satisfied_forbids : IsFree p r.satisfied_forbids
+  pub false_forbids : IsFree p r.false_forbids
+  pub open_forbids : IsFree p r.residual_forbids
 
 -- one more policy is kept, with those that aren't satisfied or without them
-abbrev pub Adds : Bool → Kept → Groups → Groups → Type 0
+abbrev pub Adds : Bool → Kept → Response → Response → Type 0
 Adds with_false k before after =
-    (ks : List Kept) → held_in before ≡ held_with with_false (holding_of ks) → held_in after ≡ held_with with_false (holding_of (ks ++ k ∷ []))
+    (ks : List Kept) → holding_in before ≡ held_with with_false (holding_of ks) → holding_in after ≡ held_with with_false (holding_of (ks ++ k ∷ []))
 
 -- the same where its error, if it errs, is kept already
-abbrev pub AddsFalse : Bool → Kept → Groups → Groups → Type 0
+abbrev pub AddsFalse : Bool → Kept → Response → Response → Type 0
 AddsFalse with_false k before after =
-    (ks : List Kept) → held_in before ≡ record (held_with with_false (holding_of ks)) { errors = errors_of (ks ++ k ∷ []) }
-    → held_in after ≡ held_with with_false (holding_of (ks ++ k ∷ []))
+    (ks : List Kept) → holding_in before ≡ record (held_with with_false (holding_of ks)) { errors = errors_of (ks ++ k ∷ []) }
+    → holding_in after ≡ held_with with_false (holding_of (ks ++ k ∷ []))
 
 -- of each policy what was found of it is kept, and nothing else
-pub record Keeps (with_false : Bool) (i : Inquiry) (store : Entities) (table : Table) (depth : ℕ) (es : Entries) (g : Groups) : Type 0 where
+pub record Keeps (with_false : Bool) (i : Inquiry) (store : Entities) (table : Table) (depth : ℕ) (es : Entries) (r : Response) : Type 0 where
   pub kept : List Kept
   pub each : AreKept i store table depth es kept
-  pub holds : held_in g ≡ held_with with_false (holding_of kept)
+  pub holds : holding_in r ≡ held_with with_false (holding_of kept)
 
 -- for each inquiry that an evaluator and what is decided of scopes answer for
 abbrev pub ForEach : {F : Type 0} → (F → FunctionAnswers) → Evaluator F → Scopes → (Inquiry → Entities → Table → ℕ → Type 0) → Type 0
 ForEach answers ev scopes Holds =
-    (i : Inquiry) (store : Entities) (table : Table) (depth : ℕ) → IsEvaluatorOf answers i store table depth ev → AreScopesOf i store scopes → Holds i store table depth
+    (i : Inquiry) (store : Entities) (table : Table) (depth : ℕ) →
+    IsEvaluatorOf answers i store table depth ev → AreScopesOf i store scopes → Holds i store table depth
+
+-- for each of them this is told of the policy
+abbrev pub IsToldBy : {F : Type 0} → (F → FunctionAnswers) → Evaluator F → Scopes → Policy → Told → Type 0
+IsToldBy answers ev scopes p told =
+    ForEach answers ev scopes (λ i store table depth. (facts : Facts) → HasFacts store facts →
+    Tells facts (request_held i (bindings_of p)) p (condition_of p) told)
 
 -- by these, for each such inquiry
-abbrev pub KeepsBy : {F : Type 0} → (F → FunctionAnswers) → Bool → Evaluator F → Scopes → Entries → Groups → Type 0
-KeepsBy answers with_false ev scopes es g = ForEach answers ev scopes (λ i store table depth. Keeps with_false i store table depth es g)
+abbrev pub KeepsBy : {F : Type 0} → (F → FunctionAnswers) → Bool → Evaluator F → Scopes → Entries → Response → Type 0
+KeepsBy answers with_false ev scopes es r = ForEach answers ev scopes (λ i store table depth. Keeps with_false i store table depth es r)
 
 -- the same is kept for each of them, under the ids of the policies in their order
 pub record KeepsEach
     {F : Type 0} (answers : F → FunctionAnswers) (with_false : Bool) (ev : Evaluator F) (scopes : Scopes)
-    (es : Entries) (g : Groups) : Type 0 where
+    (es : Entries) (r : Response) : Type 0 where
   pub kept : List Kept
   pub ids : ids_of kept ≡ keys_of es
   pub each : ForEach answers ev scopes (λ i store table depth. AreKept i store table depth es kept)
-  pub holds : held_in g ≡ held_with with_false (holding_of kept)
+  pub holds : holding_in r ≡ held_with with_false (holding_of kept)
 
--- groups that keep what was found of some policies keep then what was found of one more besides
-abbrev pub KeepsOneMore : {F : Type 0} → (F → FunctionAnswers) → Bool → Evaluator F → Scopes → Policy → Groups → Groups → Type 0
+-- a response that keeps what was found of some policies keeps then what was found of one more besides
+abbrev pub KeepsOneMore : {F : Type 0} → (F → FunctionAnswers) → Bool → Evaluator F → Scopes → Policy → Response → Response → Type 0
 KeepsOneMore answers with_false ev scopes p before after =
     (es : Entries) → KeepsEach answers with_false ev scopes es before → KeepsEach answers with_false ev scopes (es ++ policy_seen p ∷ []) after

@@ -18,6 +18,8 @@ use Rattle.cedar_evaluator.specs.Asking.{Inquiry, request_held, variable_asked}
 use Rattle.cedar_interpreter.specs.Seen.{IsSeen}
 use Rattle.cedar_interpreter.specs.declared.given.GivenEntity.{GivenEntity}
 use Rattle.cedar_policy_parts.specs.References.{target_bound}
+use Rattle.cedar_evaluator.specs.declared.judging.Told.{Told}
+use Rattle.cedar_evaluator.specs.declared.judging.Told.TheVariants.{Decided, InScope, Unsaid}
 use Rattle.cedar_evaluator.specs.declared.scopes.Scopes.{Scopes}
 
 -- the Boolean that is answered of a tree, where it is decided
@@ -75,6 +77,12 @@ WhereAsked scopes p says =
 -- this is answered of a part of the policy's scope
 abbrev pub Decides : Scopes → Policy → (Policy → Tree) → Option Bool → Type 0
 Decides scopes p part told = WhereAsked scopes p (λ facts holds. IsDecided facts holds (part p) told)
+
+-- so is told of a policy: what is answered of its condition, or that its scope holds
+abbrev pub Tells : Facts → LeafAnswers → Policy → Tree → Told → Type 0
+Tells facts holds p condition (Decided b) = IsDecided facts holds condition (Some b)
+Tells facts holds p condition InScope = IsDecided facts holds (scope_asked p) (Some true)
+Tells facts holds p condition Unsaid = ⊤
 
 -- so it is over the facts of every store, of a variable that stands for what is given and a slot that is bound so
 abbrev pub WhereGiven : Option GivenEntity → Option Uid → (Facts → LeafAnswers → Variable → SlotId → Type 0) → Type 0

@@ -1,17 +1,14 @@
 //! The authorizer: what answers requests by the policies of a set and the entities of a store. Begin with
 //! `Authorizer::new`, and then `is_authorized`, or `is_authorized_core` where parts of the request may be
 //! unknown; `is_authorized_without_false` where nothing is asked of the policies that aren't satisfied.
-ghost use Rattle.std.specs.Prelude.{◌≡◌, [], IfOk};
+ghost use Rattle.std.specs.Prelude.{◌≡◌, IfOk};
 ghost use Rattle.cedar_extensions.specs.Table.{as_table};
 ghost use Rattle.cedar_evaluator.specs.Asking.{untold, IsEvaluatorOf};
 ghost use Rattle.cedar_requests.specs.Holding.{request_parts};
 ghost use Rattle.cedar_substitution.specs.Told.{told_for};
 ghost use Rattle.cedar_evaluator.specs.Authorizing.{table_of, limit_of, Responds, RespondsWithoutFalse, RespondsBy};
-ghost use Rattle.cedar_evaluator.specs.Grouping.{held_in};
-ghost use Rattle.cedar_evaluator.specs.Responses.{holding_of};
 
 use crate::asking::evaluator_of;
-use crate::groups::Groups;
 use crate::partial_response::PartialResponse;
 use crate::scopes::Scopes;
 use cedar_entities::store::Entities;
@@ -24,7 +21,7 @@ use cedar_values::values::Value;
 use std::alloc::{AllocError, Global};
 use std::collections::BTreeMap;
 use std::fmt;
-use std::rc::RcStr;
+use std::rc::{Rc, RcStr};
 
 /// Answers requests by policies and entities; policies may call the functions of its extensions, and no
 /// evaluation nests deeper than its limit. Contracts see these by `table_of` and `limit_of`.
@@ -85,8 +82,7 @@ impl<'e, 'f, F: ExtensionFunctionObject> Authorizer<'e, 'f, F> {
         ensures { IfOk result (λ response. Responds (untold (request_parts request)) entities.now (table_of F.answers self.now) (limit_of self.now) policies.now response) }
     {
         let evaluator = self.asked(alloc, &request, entities)?;
-        let groups = Groups::new(alloc);
-        responded(alloc, &evaluator, entities, request, policies, groups)
+        responded(alloc, &evaluator, entities, request, policies, true)
     }
 
     /// The same where these values are told for unknowns.
@@ -102,8 +98,7 @@ impl<'e, 'f, F: ExtensionFunctionObject> Authorizer<'e, 'f, F> {
     {
         let evaluator = self.asked(alloc, &request, entities)?;
         let evaluator = evaluator.with_told(told);
-        let groups = Groups::new(alloc);
-        responded(alloc, &evaluator, entities, request, policies, groups)
+        responded(alloc, &evaluator, entities, request, policies, true)
     }
 
     /// What [`Authorizer::is_authorized_core`] answers, but without the policies that aren't satisfied:
@@ -120,26 +115,25 @@ impl<'e, 'f, F: ExtensionFunctionObject> Authorizer<'e, 'f, F> {
         ensures { IfOk result (λ response. RespondsWithoutFalse (untold (request_parts request)) entities.now (table_of F.answers self.now) (limit_of self.now) policies.now response) }
     {
         let evaluator = self.asked(alloc, &request, entities)?;
-        let groups = Groups::without_false(alloc);
-        responded(alloc, &evaluator, entities, request, policies, groups)
+        responded(alloc, &evaluator, entities, request, policies, false)
     }
 }
 
-// What the policies of a set come to for a request, by its evaluator over these entities, as groups of none yet
-// keep it; refused for memory alone.
+// What the policies of a set come to for a request, by its evaluator over these entities, with those that aren't
+// satisfied or without them; refused for memory alone.
 fn responded<F: ExtensionFunctionObject>(
     alloc: Global,
     evaluator: &Evaluator<'_, '_, '_, F>,
     entities: &Entities,
     request: Request,
     policies: &PolicySet,
-    mut groups: Groups,
+    with_false: bool,
 ) -> Result<PartialResponse, AllocError>
-    requires { held_in groups ≡ holding_of [] }
-    ensures { IfOk result (RespondsBy F.answers groups.with_false evaluator.now (request_parts request) policies.now) }
+    ensures { IfOk result (RespondsBy F.answers with_false evaluator.now (request_parts request) policies.now) }
 {
     let _count = policies.len();
     let scopes = Scopes::new(entities, evaluator);
-    groups.gather(alloc, evaluator, &scopes, policies)?;
-    groups.into_response(alloc, request)
+    let mut response = PartialResponse::empty(alloc, Rc::new(alloc, request)?);
+    response.gather(alloc, evaluator, &scopes, policies, with_false)?;
+    Ok(response)
 }

@@ -4,11 +4,8 @@ ghost use Rattle.std.specs.FinSet as set;
 ghost use Rattle.std.specs.List.Sorted.{IsStrictlyIncreasing};
 ghost use Rattle.std.specs.Option.{option_copied};
 ghost use Rattle.cedar_entities.specs.Data.{ancestors_of};
-ghost use Rattle.cedar_entities.specs.declared.store.Entities.{Entities as Store};
-ghost use Rattle.cedar_evaluator.specs.Asking.{Inquiry};
 ghost use Rattle.cedar_policy_set.specs.ScopeFinding.{AreAmong};
-ghost use Rattle.cedar_evaluator.specs.Candidates.{is_in_given, is_in_known, HasListed, HasPaired, HasFound, AreCandidates};
-ghost use Rattle.cedar_evaluator.specs.Scopes.{AreScopesOf};
+ghost use Rattle.cedar_evaluator.specs.Candidates.{is_in_given, is_in_known, HasListed, HasPaired, HasFound, AreCandidatesBy};
 
 use crate::scopes::Scopes;
 use cedar_entities::entity::Entity;
@@ -29,7 +26,7 @@ pub(crate) fn candidates(
     policies: &PolicySet,
 ) -> Result<Option<Vec<usize>>, AllocError>
     ensures rising { IfOk result (λ found. IfSome found (λ positions. IsStrictlyIncreasing positions.items)) }
-    ensures whole { IfOk result (λ found. IfSome found (λ positions. (i : Inquiry) (store : Store) → AreScopesOf i store scopes.now → AreCandidates i store policies.now positions.items)) }
+    ensures whole { IfOk result (λ found. IfSome found (λ positions. AreCandidatesBy scopes.now policies.now positions.items)) }
 {
     let Some(principal) = &scopes.principal else {
         return Ok(None);

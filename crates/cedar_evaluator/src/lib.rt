@@ -20,7 +20,7 @@ pub mod errors;
 pub mod evaluation;
 pub mod evaluator;
 pub mod extensions;
-mod groups;
+mod gathering;
 pub mod ids;
 mod judging;
 pub mod laws;

@@ -1,10 +1,10 @@
 -- The evaluator is one of the request of which these values are told.
-use Rattle.std.proofs.Common.{Bool, refl, subst}
+use Rattle.std.proofs.Common.{refl}
 use Rattle.cedar_evaluator.specs.Asking.{Inquiry, variable_asked}
 use Rattle.cedar_requests.specs.Holding.{request_parts}
 use Rattle.cedar_substitution.specs.Told.{told_for}
 use Rattle.cedar_interpreter.specs.Asking.{nothing_told}
-use Rattle.cedar_evaluator.specs.Authorizing.{table_of, limit_of, RespondsWith}
+use Rattle.cedar_evaluator.specs.Authorizing.{table_of, limit_of}
 use Rattle.cedar_evaluator.proofs.Responding.{if_ok}
 use Rattle.cedar_evaluator.proofs.authorizer.Authorizer.answer_told.Goals as goal
 
@@ -15,4 +15,4 @@ returns g c =
     let table = table_of g.F.ExtensionFunctionObject.answers c.args.self.now in
     let depth = limit_of c.args.self.now in
     if_ok c.responded.result
-    (λ response by. subst (λ (b : Bool). RespondsWith b i store table depth c.args.policies.now response) c.new-groups.ensures.with_false (by i store table depth refl (c.with_told-evaluator.ensures (variable_asked (request_parts c.args.request)) nothing_told store table depth c.in_ok-evaluator.ensures))) c.responded.ensures
+    (λ response by. by i store table depth refl (c.with_told-evaluator.ensures (variable_asked (request_parts c.args.request)) nothing_told store table depth c.in_ok-evaluator.ensures)) c.responded.ensures

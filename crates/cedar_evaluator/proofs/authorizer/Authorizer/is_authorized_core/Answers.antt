@@ -1,8 +1,8 @@
 -- The evaluator is one of the request of which nothing is told.
-use Rattle.std.proofs.Common.{Bool, refl, subst}
+use Rattle.std.proofs.Common.{refl}
 use Rattle.cedar_evaluator.specs.Asking.{untold}
 use Rattle.cedar_requests.specs.Holding.{request_parts}
-use Rattle.cedar_evaluator.specs.Authorizing.{table_of, limit_of, RespondsWith}
+use Rattle.cedar_evaluator.specs.Authorizing.{table_of, limit_of}
 use Rattle.cedar_evaluator.proofs.Responding.{if_ok}
 use Rattle.cedar_evaluator.proofs.authorizer.Authorizer.is_authorized_core.Goals as goal
 
@@ -13,4 +13,4 @@ returns g c =
     let table = table_of g.F.ExtensionFunctionObject.answers c.args.self.now in
     let depth = limit_of c.args.self.now in
     if_ok c.responded.result
-    (λ response by. subst (λ (b : Bool). RespondsWith b i store table depth c.args.policies.now response) c.new-groups.ensures.with_false (by i store table depth refl c.in_ok-evaluator.ensures)) c.responded.ensures
+    (λ response by. by i store table depth refl c.in_ok-evaluator.ensures) c.responded.ensures

@@ -1,5 +1,5 @@
-// Policies in groups, by their effects and by what was found of them.
-ghost use Rattle.std.specs.Prelude.{◌≡◌, true, false, [], IfOk, OnOk};
+// What is found of the policies of a set, gathered in a response.
+ghost use Rattle.std.specs.Prelude.{◌≡◌, Bool, true, false, [], IfOk, OnOk};
 ghost use Rattle.std.specs.List.{IsDistinct};
 ghost use Rattle.std.specs.Map.{keys_of};
 ghost use Rattle.cedar_language.specs.Order.{same_text};
@@ -10,13 +10,15 @@ ghost use Rattle.cedar_requests.specs.Holding.{request_parts};
 ghost use Rattle.cedar_trees.specs.Bare.{bare};
 ghost use Rattle.cedar_evaluator.specs.Candidates.{policies_at};
 ghost use Rattle.cedar_evaluator.specs.Evaluations.{Found, Satisfied, Erred, Open};
-ghost use Rattle.cedar_evaluator.specs.Grouping.{held_in, kept_as, kept_of, is_want, IsKeepable, Adds, AddsFalse, IsNew, KeepsBy, KeepsOneMore};
+ghost use Rattle.cedar_evaluator.specs.Grouping.{kept_as, kept_of, is_want, IsKeepable, Adds, AddsFalse, IsNew, IsToldBy, KeepsBy, KeepsOneMore};
 ghost use Rattle.cedar_evaluator.specs.Holding.{has_erred, holding_in, noted, request_asked};
 ghost use Rattle.cedar_evaluator.specs.Responses.{false_id, holding_of};
+ghost use Rattle.cedar_evaluator.specs.declared.scopes.Scopes.{Scopes};
 
 use crate::candidates::candidates;
 use crate::errors::AuthorizationError;
-use crate::judging::{evaluated_in_full, told};
+use crate::evaluation::EvaluatePolicy;
+use crate::judging::{Told, at_a_glance, in_scope};
 use crate::partial_response::{ErrorState, PartialResponse};
 use crate::scopes::Scopes;
 use cedar_extensions::evaluation_error::EvaluationError;
@@ -33,36 +35,6 @@ use cedar_trees::expr::Expr;
 use either::Either;
 use std::alloc::{AllocError, Global};
 use std::rc::Rc;
-
-// The policies so far, of each effect those that are satisfied, those that aren't, and those that are open,
-// and the errors.
-pub(crate) struct Groups {
-    // Whether policies that aren't satisfied are kept.
-    with_false: bool,
-    satisfied_permits: PolicyMap<Rc<Annotations>>,
-    false_permits: PolicyMap<(ErrorState, Rc<Annotations>)>,
-    residual_permits: PolicyMap<(Rc<Expr>, Rc<Annotations>)>,
-    satisfied_forbids: PolicyMap<Rc<Annotations>>,
-    false_forbids: PolicyMap<(ErrorState, Rc<Annotations>)>,
-    residual_forbids: PolicyMap<(Rc<Expr>, Rc<Annotations>)>,
-    errors: Vec<AuthorizationError>,
-}
-
-// By hand, so that letting go of one is a call.
-impl Drop for Groups {
-    fn drop(self) {
-        let Groups {
-            with_false: _,
-            satisfied_permits: _satisfied_permits,
-            false_permits: _false_permits,
-            residual_permits: _residual_permits,
-            satisfied_forbids: _satisfied_forbids,
-            false_forbids: _false_forbids,
-            residual_forbids: _residual_forbids,
-            errors: _errors,
-        } = self;
-    }
-}
 
 // Whether an error is want of memory.
 fn is_want_of_memory(error: &EvaluationError) -> bool
@@ -96,14 +68,13 @@ fn noted(policy: &Policy) -> Result<(PolicyID, Rc<Annotations>), AllocError>
     Ok((id, annotations))
 }
 
-impl Groups {
-    /// No policies yet; those that aren't satisfied will be kept.
-    pub(crate) fn new(alloc: Global) -> Groups
-        ensures none { held_in result ≡ holding_of [] }
-        ensures with_false { result.with_false ≡ true }
+impl PartialResponse {
+    /// The response to a request of which nothing is found yet; takes no memory.
+    pub(crate) fn empty(alloc: Global, request: Rc<Request>) -> PartialResponse
+        ensures none { holding_in result ≡ holding_of [] }
+        ensures asked { request_asked result ≡ request_parts request.value }
     {
-        Groups {
-            with_false: true,
+        PartialResponse {
             satisfied_permits: PolicyMap::new(alloc),
             false_permits: PolicyMap::new(alloc),
             residual_permits: PolicyMap::new(alloc),
@@ -111,20 +82,12 @@ impl Groups {
             false_forbids: PolicyMap::new(alloc),
             residual_forbids: PolicyMap::new(alloc),
             errors: Vec::new(alloc),
+            request,
         }
     }
 
-    /// No policies yet; those that aren't satisfied won't be kept, and of one that errs the error alone.
-    pub(crate) fn without_false(alloc: Global) -> Groups
-        ensures none { held_in result ≡ holding_of [] }
-        ensures with_false { result.with_false ≡ false }
-    {
-        let mut groups = Groups::new(alloc);
-        groups.with_false = false;
-        groups
-    }
-
-    /// Keeps what each policy of a set, a static policy or a link, comes to, in their order; refused for memory
+    /// Keeps what each policy of a set, a static policy or a link, comes to, in their order, those that aren't
+    /// satisfied as well where that is asked; without them, of one that errs the error alone. Refused for memory
     /// alone.
     pub(crate) fn gather<F: ExtensionFunctionObject>(
         &mut self,
@@ -132,17 +95,19 @@ impl Groups {
         evaluator: &Evaluator<'_, '_, '_, F>,
         scopes: &Scopes<'_>,
         policies: &PolicySet,
+        with_false: bool,
     ) -> Result<(), AllocError>
-        requires none { held_in self.old ≡ holding_of [] }
+        requires none { holding_in self.old ≡ holding_of [] }
         requires apart { IsDistinct same_text (keys_of (policies_of policies.now)) }
-        ensures { OnOk result (KeepsBy F.answers self.old.with_false evaluator.now scopes.now (policies_of policies.now) self.new) }
+        ensures keeps { OnOk result (KeepsBy F.answers with_false evaluator.now scopes.now (policies_of policies.now) self.new) }
+        ensures same { self.new.request ≡ self.old.request }
     {
-        if self.with_false {
-            return self.gather_all(alloc, evaluator, scopes, policies);
+        if with_false {
+            return self.gather_all(alloc, evaluator, scopes, policies, with_false);
         }
         match candidates(alloc, scopes, policies)? {
             Some(positions) => self.gather_at(alloc, evaluator, scopes, policies, &positions),
-            None => self.gather_all(alloc, evaluator, scopes, policies),
+            None => self.gather_all(alloc, evaluator, scopes, policies, with_false),
         }
     }
 
@@ -153,18 +118,20 @@ impl Groups {
         evaluator: &Evaluator<'_, '_, '_, F>,
         scopes: &Scopes<'_>,
         policies: &PolicySet,
+        with_false: bool,
     ) -> Result<(), AllocError>
-        requires none { held_in self.old ≡ holding_of [] }
+        requires none { holding_in self.old ≡ holding_of [] }
         requires apart { IsDistinct same_text (keys_of (policies_of policies.now)) }
-        ensures { OnOk result (KeepsBy F.answers self.old.with_false evaluator.now scopes.now (policies_of policies.now) self.new) }
+        ensures keeps { OnOk result (KeepsBy F.answers with_false evaluator.now scopes.now (policies_of policies.now) self.new) }
+        ensures same { self.new.request ≡ self.old.request }
     {
         for policy in policies.policies() {
-            self.evaluate(alloc, evaluator, scopes, policy)?;
+            self.evaluate(alloc, evaluator, scopes, policy, with_false)?;
         }
         Ok(())
     }
 
-    // The same of the policies at these positions.
+    // The same of the policies at these positions, without those that aren't satisfied.
     fn gather_at<F: ExtensionFunctionObject>(
         &mut self,
         alloc: Global,
@@ -173,13 +140,14 @@ impl Groups {
         policies: &PolicySet,
         positions: &[usize],
     ) -> Result<(), AllocError>
-        requires none { held_in self.old ≡ holding_of [] }
+        requires none { holding_in self.old ≡ holding_of [] }
         requires apart { IsDistinct same_text (keys_of (policies_at policies.now positions.now)) }
-        ensures { OnOk result (KeepsBy F.answers self.old.with_false evaluator.now scopes.now (policies_at policies.now positions.now) self.new) }
+        ensures keeps { OnOk result (KeepsBy F.answers false evaluator.now scopes.now (policies_at policies.now positions.now) self.new) }
+        ensures same { self.new.request ≡ self.old.request }
     {
         for position in positions {
             if let Some(policy) = policies.policy_at(*position) {
-                self.evaluate(alloc, evaluator, scopes, policy)?;
+                self.evaluate(alloc, evaluator, scopes, policy, false)?;
             }
         }
         Ok(())
@@ -193,33 +161,47 @@ impl Groups {
         evaluator: &Evaluator<'_, '_, '_, F>,
         scopes: &Scopes<'_>,
         policy: &Policy,
+        with_false: bool,
     ) -> Result<(), AllocError>
         requires { IsNew policy.now self.old }
-        ensures keeps { OnOk result (KeepsOneMore F.answers self.old.with_false evaluator.now scopes.now policy.now self.old self.new) }
-        ensures same { self.new.with_false ≡ self.old.with_false }
+        ensures keeps { OnOk result (KeepsOneMore F.answers with_false evaluator.now scopes.now policy.now self.old self.new) }
+        ensures same { self.new.request ≡ self.old.request }
     {
-        match told(evaluator, scopes, policy) {
-            Some(true) => self.keep_satisfied(policy),
-            Some(false) => self.keep_false(policy, ErrorState::NoError),
-            None => self.evaluate_in_full(alloc, evaluator, scopes, policy),
+        let told = at_a_glance(evaluator, scopes, policy);
+        match told {
+            Told::Decided(true) => self.keep_satisfied(policy),
+            Told::Decided(false) => self.keep_false(policy, ErrorState::NoError, with_false),
+            Told::InScope | Told::Unsaid => {
+                self.evaluate_in_full(alloc, evaluator, policy, told, with_false)
+            }
         }
     }
 
-    // The same of a policy of which that isn't told. Not inlined, since few are evaluated in full.
+    // The same of a policy of which this is told. Not inlined, since few are evaluated in full.
     #[inline(never)]
     fn evaluate_in_full<F: ExtensionFunctionObject>(
         &mut self,
         alloc: Global,
         evaluator: &Evaluator<'_, '_, '_, F>,
-        scopes: &Scopes<'_>,
         policy: &Policy,
+        told: Told,
+        with_false: bool,
     ) -> Result<(), AllocError>
         requires { IsNew policy.now self.old }
-        ensures keeps { OnOk result (KeepsOneMore F.answers self.old.with_false evaluator.now scopes.now policy.now self.old self.new) }
-        ensures same { self.new.with_false ≡ self.old.with_false }
+        ensures keeps { (scopes : Scopes) → IsToldBy F.answers evaluator.now scopes policy.now told →
+            OnOk result (KeepsOneMore F.answers with_false evaluator.now scopes policy.now self.old self.new) }
+        ensures same { self.new.request ≡ self.old.request }
     {
-        let answer = evaluated_in_full(alloc, evaluator, scopes, policy);
-        self.keep(alloc, policy, answer)
+        match told {
+            Told::InScope => {
+                let answer = in_scope(alloc, evaluator, policy);
+                self.keep(alloc, policy, answer, with_false)
+            }
+            Told::Unsaid | Told::Decided(_) => {
+                let answer = evaluator.partial_evaluate(alloc, policy);
+                self.keep(alloc, policy, answer, with_false)
+            }
+        }
     }
 
     // Keeps what one more policy comes to; want of memory is handed on.
@@ -228,24 +210,25 @@ impl Groups {
         alloc: Global,
         policy: &Policy,
         answer: Result<Either<bool, Expr>, EvaluationError>,
+        with_false: bool,
     ) -> Result<(), AllocError>
         requires { IsNew policy.now self.old }
-        ensures held { OnOk result (Adds self.old.with_false (kept_of policy.now answer) self.old self.new) }
+        ensures held { OnOk result (Adds with_false (kept_of policy.now answer) self.old self.new) }
         ensures keepable { OnOk result (IsKeepable answer) }
-        ensures same { self.new.with_false ≡ self.old.with_false }
+        ensures same { self.new.request ≡ self.old.request }
     {
         match answer {
             Ok(Either::Left(true)) => self.keep_satisfied(policy),
-            Ok(Either::Left(false)) => self.keep_false(policy, ErrorState::NoError),
+            Ok(Either::Left(false)) => self.keep_false(policy, ErrorState::NoError, with_false),
             Ok(Either::Right(rest)) => self.keep_open(policy, Rc::new(alloc, rest)?),
-            Err(error) => self.keep_erring(policy, error),
+            Err(error) => self.keep_erring(policy, error, with_false),
         }
     }
 
     fn keep_satisfied(&mut self, policy: &Policy) -> Result<(), AllocError>
         requires { IsNew policy.now self.old }
-        ensures held { OnOk result (Adds self.old.with_false (kept_as policy.now Satisfied) self.old self.new) }
-        ensures same { self.new.with_false ≡ self.old.with_false }
+        ensures held { (with_false : Bool) → OnOk result (Adds with_false (kept_as policy.now Satisfied) self.old self.new) }
+        ensures same { self.new.request ≡ self.old.request }
     {
         let (id, annotations) = noted(policy)?;
         match policy.effect() {
@@ -256,8 +239,8 @@ impl Groups {
 
     fn keep_open(&mut self, policy: &Policy, rest: Rc<Expr>) -> Result<(), AllocError>
         requires { IsNew policy.now self.old }
-        ensures held { OnOk result (Adds self.old.with_false (kept_as policy.now (Open (bare rest.value))) self.old self.new) }
-        ensures same { self.new.with_false ≡ self.old.with_false }
+        ensures held { (with_false : Bool) → OnOk result (Adds with_false (kept_as policy.now (Open (bare rest.value))) self.old self.new) }
+        ensures same { self.new.request ≡ self.old.request }
     {
         let (id, annotations) = noted(policy)?;
         let kept = (rest, annotations);
@@ -268,11 +251,16 @@ impl Groups {
     }
 
     // An error counts as not satisfied; want of memory is handed on.
-    fn keep_erring(&mut self, policy: &Policy, error: EvaluationError) -> Result<(), AllocError>
+    fn keep_erring(
+        &mut self,
+        policy: &Policy,
+        error: EvaluationError,
+        with_false: bool,
+    ) -> Result<(), AllocError>
         requires { IsNew policy.now self.old }
-        ensures held { OnOk result (Adds self.old.with_false (kept_as policy.now (Erred (failure_of error))) self.old self.new) }
+        ensures held { OnOk result (Adds with_false (kept_as policy.now (Erred (failure_of error))) self.old self.new) }
         ensures keepable { OnOk result (is_want (failure_of error) ≡ false) }
-        ensures same { self.new.with_false ≡ self.old.with_false }
+        ensures same { self.new.request ≡ self.old.request }
     {
         if is_want_of_memory(&error) {
             return Err(AllocError);
@@ -280,17 +268,22 @@ impl Groups {
         let id = policy.id().clone()?;
         self.errors
             .push(AuthorizationError::PolicyEvaluationError { id, error })?;
-        self.keep_false(policy, ErrorState::Error)
+        self.keep_false(policy, ErrorState::Error, with_false)
     }
 
     // Keeps a policy that isn't satisfied, if such are kept; its error, where it erred, is kept already.
-    fn keep_false(&mut self, policy: &Policy, state: ErrorState) -> Result<(), AllocError>
+    fn keep_false(
+        &mut self,
+        policy: &Policy,
+        state: ErrorState,
+        with_false: bool,
+    ) -> Result<(), AllocError>
         requires { IsNew policy.now self.old }
         ensures held { (found : Found) → false_id (policy_id policy.now) found ≡ Some (policy_id policy.now, has_erred state) →
-            OnOk result (AddsFalse self.old.with_false (kept_as policy.now found) self.old self.new) }
-        ensures same { self.new.with_false ≡ self.old.with_false }
+            OnOk result (AddsFalse with_false (kept_as policy.now found) self.old self.new) }
+        ensures same { self.new.request ≡ self.old.request }
     {
-        if !self.with_false {
+        if !with_false {
             return Ok(());
         }
         let (id, annotations) = noted(policy)?;
@@ -299,37 +292,5 @@ impl Groups {
             Effect::Permit => self.false_permits.push(id, kept),
             Effect::Forbid => self.false_forbids.push(id, kept),
         }
-    }
-
-    /// The response to a request of which these are found; refused for memory alone.
-    pub(crate) fn into_response(
-        self,
-        alloc: Global,
-        request: Request,
-    ) -> Result<PartialResponse, AllocError>
-        ensures holds { IfOk result (λ response. holding_in response ≡ held_in self) }
-        ensures asked { IfOk result (λ response. request_asked response ≡ request_parts request) }
-    {
-        let request = Rc::new(alloc, request)?;
-        let Groups {
-            with_false: _,
-            satisfied_permits,
-            false_permits,
-            residual_permits,
-            satisfied_forbids,
-            false_forbids,
-            residual_forbids,
-            errors,
-        } = self;
-        Ok(PartialResponse {
-            satisfied_permits,
-            false_permits,
-            residual_permits,
-            satisfied_forbids,
-            false_forbids,
-            residual_forbids,
-            errors,
-            request,
-        })
     }
 }

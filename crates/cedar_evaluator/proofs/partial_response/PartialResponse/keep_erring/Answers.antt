@@ -6,11 +6,10 @@ use Rattle.cedar_language.specs.Uid.{Text}
 use Rattle.cedar_extensions.specs.Failures.{failure_of}
 use Rattle.cedar_policies.specs.Policies.{policy_id}
 use Rattle.cedar_evaluator.specs.Evaluations.{Erred}
-use Rattle.cedar_evaluator.specs.Grouping.{held_in}
-use Rattle.cedar_evaluator.specs.Holding.{error_seen}
+use Rattle.cedar_evaluator.specs.Holding.{error_seen, holding_in}
 use Rattle.cedar_evaluator.specs.declared.errors.AuthorizationError.TheVariants.{PolicyEvaluationError}
 use Rattle.cedar_evaluator.proofs.Adding.{adds_erring}
-use Rattle.cedar_evaluator.proofs.groups.Groups.keep_erring.Goals as goal
+use Rattle.cedar_evaluator.proofs.partial_response.PartialResponse.keep_erring.Goals as goal
 
 pub returns-clause-held : goal.returns-clause-held
 returns-clause-held c =
@@ -18,9 +17,14 @@ returns-clause-held c =
     let before = c.args.self.now in
     let told = failure_of c.args.error in
     let own : c.in_ok-id.id ≡ policy_id p = search rules in
-    let errors = ap (map error_seen) c.in_ok-push.ensures.items ∙ map_push error_seen before.errors.items (PolicyEvaluationError c.in_ok-id.id c.args.error) ∙ ap (λ (id : Text). map error_seen before.errors.items ++ (id, told) ∷ []) own in
+    let seen = map error_seen before.errors.items in
+    let errors =
+    ap (map error_seen) c.in_ok-push.ensures.items
+    ∙ map_push error_seen before.errors.items (PolicyEvaluationError c.in_ok-id.id c.args.error)
+    ∙ ap (λ (id : Text). seen ++ (id, told) ∷ []) own in
     on_ok_weaker c.keep_false.result
-    (adds_erring before.with_false p before c.keep_false.new.self told (record before { errors = c.push.new.self }) (λ i. record (held_in before) { errors = errors i }))
+    (adds_erring c.args.with_false p before c.keep_false.new.self told (record before { errors = c.push.new.self })
+    (λ i. record (holding_in before) { errors = errors i }))
     (c.keep_false.ensures.held (Erred told) refl)
 
 pub keep_false-requires : goal.keep_false-requires
