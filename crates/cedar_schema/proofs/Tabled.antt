@@ -18,7 +18,7 @@ or_else_mapped : {B C : Type 0} (g : B → C) (o p : Option B) → or_else (opti
 or_else_mapped g (Some x) p = refl
 or_else_mapped g None p = refl
 
-mapped_first : {A B C : Type 0} (f : A → Option B) (g : B → C) (h : A → Option C) → ((x : A) → h x ≡ option_map g (f x)) → (xs : List A)
+pub mapped_first : {A B C : Type 0} (f : A → Option B) (g : B → C) (h : A → Option C) → ((x : A) → h x ≡ option_map g (f x)) → (xs : List A)
     → first_of h xs ≡ option_map g (first_of f xs)
 mapped_first f g h e [] = refl
 mapped_first f g h e (x ∷ xs) =

@@ -1,0 +1,12 @@
+//! What a schema's text declares, by names, and its common types resolved.
+#![tactic(auto)]
+
+mod declarations;
+mod mentions;
+mod resolution;
+
+pub use declarations::{
+    Declarations, DeclaredAction, DeclaredEntity, DeclaredType, EntityBody,
+};
+pub use mentions::CommonNumbers;
+pub use resolution::{ResolutionError, resolve_common_types};
