@@ -1,0 +1,3 @@
+pub mod Declaring
+pub mod Mentioning
+pub mod Numbering

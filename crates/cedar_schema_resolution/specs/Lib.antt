@@ -1,1 +1,3 @@
 pub mod Declarations
+pub mod Mentions
+pub mod Numbers

@@ -1,13 +1,13 @@
 // What a schema's text declares.
-ghost use Rattle.std.specs.Prelude.{◌≡◌, [], ◌∷◌, ◌++◌, IfOk, OnOk, option_map, unwrap_or};
-ghost use Rattle.cedar_schema_grammar.specs.Declared.{declared, entity_name, type_name, entity_types_in, common_types_in, actions_in, of_block};
+ghost use Rattle.std.specs.Prelude.{◌≡◌, [], ◌∷◌, ◌++◌, IfOk, OnOk, map, option_map, unwrap_or};
+ghost use Rattle.cedar_schema_grammar.specs.Declared.{declared, entity_name, type_name, entity_types_in, common_types_in, actions_in, of_block, of_blocks};
 ghost use Rattle.cedar_schema_syntax.specs.View as syntax;
 ghost use Rattle.cedar_schema_resolution.specs.Declarations.{body_view, entity_view, type_view, entities_view, types_view, actions_view, entities_named, actions_named, declared_view};
 
 use cedar_schema::TypeName;
 use cedar_schema_syntax::{
-    ActionSyntax, Declaration, EntitySyntax, EnumerationSyntax, Name, Namespace, Path, SchemaSyntax,
-    TypeSyntax,
+    ActionSyntax, CommonTypeSyntax, Declaration, EntitySyntax, EnumerationSyntax, Name, Namespace,
+    Path, SchemaSyntax, TypeSyntax,
 };
 use std::alloc::{AllocError, Global};
 
@@ -84,19 +84,32 @@ impl<'s> Declarations<'s> {
     /// What a schema's text declares. Refused for memory alone.
     pub fn from_syntax(
         alloc: Global,
-        syntax: &'s SchemaSyntax,
+        schema: &'s SchemaSyntax,
     ) -> Result<Declarations<'s>, AllocError>
-        ensures { IfOk result (λ all. declared_view all ≡ declared (syntax.schema_view syntax.now)) }
+        ensures { IfOk result (λ all. declared_view all ≡ declared (syntax.schema_view schema.now)) }
     {
         let mut all = Declarations {
             entities: Vec::new(alloc),
             types: Vec::new(alloc),
             actions: Vec::new(alloc),
         };
-        for block in &syntax.namespaces {
-            all.add_block(alloc, block)?;
-        }
+        all.add_blocks(alloc, &schema.namespaces)?;
         Ok(all)
+    }
+
+    // Adds what blocks declare.
+    fn add_blocks(&mut self, alloc: Global, blocks: &'s [Namespace]) -> Result<(), AllocError>
+        ensures entities { OnOk result (entities_view self.new
+            ≡ entities_view self.old ++ of_blocks entity_types_in (map syntax.namespace_view blocks.now)) }
+        ensures types { OnOk result (types_view self.new
+            ≡ types_view self.old ++ of_blocks common_types_in (map syntax.namespace_view blocks.now)) }
+        ensures actions { OnOk result (actions_view self.new
+            ≡ actions_view self.old ++ of_blocks actions_in (map syntax.namespace_view blocks.now)) }
+    {
+        for block in blocks {
+            self.add_block(alloc, block)?;
+        }
+        Ok(())
     }
 
     // Adds what a block declares.
@@ -109,8 +122,24 @@ impl<'s> Declarations<'s> {
             ++ of_block (actions_in (syntax.namespace_view block.now).path) (syntax.namespace_view block.now).declarations) }
     {
         let namespace = namespace_name(alloc, &block.path)?;
-        for declaration in &block.declarations {
-            self.add(&namespace, declaration)?;
+        self.add_all(&namespace, &block.declarations)
+    }
+
+    // Adds what declarations of a namespace declare.
+    fn add_all(
+        &mut self,
+        namespace: &TypeName,
+        declarations: &'s [Declaration],
+    ) -> Result<(), AllocError>
+        ensures entities { OnOk result (entities_view self.new ≡ entities_view self.old
+            ++ of_block (entity_types_in namespace.now) (map syntax.declaration_view declarations.now)) }
+        ensures types { OnOk result (types_view self.new ≡ types_view self.old
+            ++ of_block (common_types_in namespace.now) (map syntax.declaration_view declarations.now)) }
+        ensures actions { OnOk result (actions_view self.new ≡ actions_view self.old
+            ++ of_block (actions_in namespace.now) (map syntax.declaration_view declarations.now)) }
+    {
+        for declaration in declarations {
+            self.add(namespace, declaration)?;
         }
         Ok(())
     }
@@ -131,16 +160,29 @@ impl<'s> Declarations<'s> {
             Declaration::Enumeration(listed) => {
                 self.add_entities(namespace, &listed.names, EntityBody::Listed(listed))
             }
-            Declaration::Actions(actions) => self.add_actions(namespace, actions),
-            Declaration::CommonType(common) => {
-                self.types.push(DeclaredType {
-                    namespace: namespace.clone()?,
-                    own: &common.name,
-                    written: &common.written,
-                })?;
-                Ok(())
-            }
+            Declaration::Actions(actions) => self.add_actions(namespace, &actions.names, actions),
+            Declaration::CommonType(common) => self.add_type(namespace, common),
         }
+    }
+
+    // Adds a common type.
+    fn add_type(
+        &mut self,
+        namespace: &TypeName,
+        common: &'s CommonTypeSyntax,
+    ) -> Result<(), AllocError>
+        ensures types { OnOk result (types_view self.new ≡ types_view self.old
+            ++ common_types_in namespace.now (syntax.declaration_view (Declaration.CommonType common.now))) }
+        ensures entities { OnOk result (entities_view self.new ≡ entities_view self.old) }
+        ensures actions { OnOk result (actions_view self.new ≡ actions_view self.old) }
+    {
+        let namespace = namespace.clone()?;
+        self.types.push(DeclaredType {
+            namespace,
+            own: &common.name,
+            written: &common.written,
+        })?;
+        Ok(())
     }
 
     // Adds entity types of these names.
@@ -186,14 +228,15 @@ impl<'s> Declarations<'s> {
     fn add_actions(
         &mut self,
         namespace: &TypeName,
+        names: &'s [Name],
         written: &'s ActionSyntax,
     ) -> Result<(), AllocError>
         ensures actions { OnOk result (actions_view self.new ≡ actions_view self.old
-            ++ actions_named namespace.now (syntax.action_view written.now) (syntax.names_view written.now.names.items)) }
+            ++ actions_named namespace.now (syntax.action_view written.now) (syntax.names_view names.now)) }
         ensures entities { OnOk result (entities_view self.new ≡ entities_view self.old) }
         ensures types { OnOk result (types_view self.new ≡ types_view self.old) }
     {
-        for own in &written.names {
+        for own in names {
             self.add_action(namespace, own, written)?;
         }
         Ok(())

@@ -3,10 +3,7 @@
 
 mod declarations;
 mod mentions;
-mod resolution;
+mod numbers;
 
-pub use declarations::{
-    Declarations, DeclaredAction, DeclaredEntity, DeclaredType, EntityBody,
-};
-pub use mentions::CommonNumbers;
-pub use resolution::{ResolutionError, resolve_common_types};
+pub use declarations::{Declarations, DeclaredAction, DeclaredEntity, DeclaredType, EntityBody};
+pub use numbers::CommonNumbers;
