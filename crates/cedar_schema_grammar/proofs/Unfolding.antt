@@ -77,7 +77,7 @@ module _ (d : Declared) (l : Library) where
       by (inl f) = common_is (type_at d m) u f
       by (inr f) = absurd (no_common (λ x. Entities (entity_name x)) (entity_at d m) u f)
 
-  referent_is : (namespace n : Name) (u : CommonType) → referent d l namespace n ≡ Some (to_common u) → type_at d (type_name u) ≡ Some u
+  pub referent_is : (namespace n : Name) (u : CommonType) → referent d l namespace n ≡ Some (to_common u) → type_at d (type_name u) ≡ Some u
   referent_is namespace n u e = by (or_else_is (first_of (declared_as d) (places namespace n)) (option_map to_type (built_in_path l n)) (to_common u) e)
     where
       by : (first_of (declared_as d) (places namespace n) ≡ Some (to_common u)) ⊎ (option_map to_type (built_in_path l n) ≡ Some (to_common u)) → type_at d (type_name u) ≡ Some u
@@ -196,7 +196,7 @@ module _ (d : Declared) (l : Library) where
   abbrev pub Leads : Name → Name → Type 0
   Leads = Reaches (Edge (refers d l))
 
-  refers_if : (n m : Name) (t : CommonType) → type_at d n ≡ Some t → IsAmong m (mentions d l t.namespace t.type) → refers d l n m ≡ true
+  pub refers_if : (n m : Name) (t : CommonType) → type_at d n ≡ Some t → IsAmong m (mentions d l t.namespace t.type) → refers d l n m ≡ true
   refers_if n m t e a = subst (λ o. list_any (same_name m) (mentioned d l o) ≡ true) (sym e) (among_any m (mentions d l t.namespace t.type) a)
 
   abbrev pub AllLead : List Name → Name → Type 0
