@@ -109,7 +109,7 @@ numbered i (t ∷ ts) n = by (same_name (type_name t) n) refl (numbered (i + 1) 
       ap (λ b. cond b (Some i) (number_from (i + 1) ts n)) e ∙ r.1,
     )
     by false e (inr r) =
-        let more : i + 1 + r.1 ≡ i + (r.1 + 1) = omega arith in
+        let more : i + 1 + r.1 ≡ i + suc r.1 = omega arith in
         inr (
           r.0,
           suc r.1,

@@ -1,5 +1,5 @@
 -- Common types are put over entity types.
-use Rattle.std.proofs.Common.{subst, refl}
+use Rattle.std.proofs.Common.{rules, subst}
 use Rattle.std.specs.Prelude.{map}
 use Rattle.cedar_schema_resolution.specs.Declarations.{entity_view, type_view, declared_view}
 use Rattle.cedar_schema_resolution.specs.Numbers.{HasNone, AreNumbered}
