@@ -1,3 +1,5 @@
 pub mod Declaring
 pub mod Mentioning
 pub mod Numbering
+pub mod Ordered
+pub mod Resolving

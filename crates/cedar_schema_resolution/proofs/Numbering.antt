@@ -1,5 +1,6 @@
 -- Numbers that are put by names are those of what is declared.
 use Rattle.std.proofs.Common.{◌≡◌, ◌⊎◌, inl, inr, ℕ, zero, suc, ◌+◌, ◌-◌, ◌<◌, ◌≤◌, Bool, true, false, cond, List, [], ◌∷◌, length, drop, get_or, Option, Some, None, refl, sym, ap, ◌∙◌, subst, arith}
+use Rattle.std.proofs.Math.Nat.{add-zero}
 use Rattle.std.specs.Prelude.{map, option_map}
 use Rattle.std.specs.List.{find, slice_get}
 use Rattle.std.specs.BTreeMap.{is_at}
@@ -99,7 +100,7 @@ numbered i (t ∷ ts) n = by (same_name (type_name t) n) refl (numbered (i + 1) 
       0,
       record {
         found = ap (λ b. cond b (Some t) (find (λ u. same_name (type_name u) n) ts)) e;
-        number = ap (λ b. cond b (Some i) (number_from (i + 1) ts n)) e;
+        number = ap (λ b. cond b (Some i) (number_from (i + 1) ts n)) e ∙ ap Some (sym (add-zero i));
         at = refl;
         is = name_is (type_name t) n e;
       },

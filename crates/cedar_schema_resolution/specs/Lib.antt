@@ -1,3 +1,4 @@
 pub mod Declarations
 pub mod Mentions
 pub mod Numbers
+pub mod Resolved

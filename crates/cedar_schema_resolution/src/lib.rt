@@ -4,6 +4,8 @@
 mod declarations;
 mod mentions;
 mod numbers;
+mod resolution;
 
 pub use declarations::{Declarations, DeclaredAction, DeclaredEntity, DeclaredType, EntityBody};
 pub use numbers::CommonNumbers;
+pub use resolution::{ResolutionError, resolve_common_types};

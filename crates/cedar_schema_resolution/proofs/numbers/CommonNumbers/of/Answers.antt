@@ -10,4 +10,4 @@ pub returns : goal.returns
 returns c =
     numbers_are_of (declared_view c.args.declared.now) _ c.add_entities.new.self c.add_types.new.self (λ n. search rules)
     (subst (λ es. HasNone (map entity_view es) _ c.add_entities.new.self) c.deref.ensures.value c.in_ok-add_entities.ensures)
-    (subst (λ ts. AreNumbered 0 (map type_view ts) c.add_entities.new.self c.add_types.new.self) c.deref-types.ensures.value c.in_ok-add_types.ensures)
+    (subst (λ ts. AreNumbered 0 (map type_view ts) c.add_entities.new.self c.add_types.new.self) c.deref-2.ensures.value c.in_ok-add_types.ensures)
