@@ -1,5 +1,5 @@
 -- In an order in which what is mentioned comes first each common type gets the type that it stands for.
-use Rattle.std.proofs.Common.{◌≡◌, ◌⊎◌, inl, inr, ℕ, zero, suc, ◌+◌, ◌<◌, ◌≤◌, Bool, true, false, cond, List, [], ◌∷◌, length, take, get_or, slice_index, Option, Some, None, refl, sym, ap, ◌∙◌, subst, arith}
+use Rattle.std.proofs.Common.{◌≡◌, ◌⊎◌, inl, inr, ℕ, zero, suc, ◌+◌, ◌<◌, ◌≤◌, Bool, true, false, cond, List, [], ◌∷◌, length, take, get_or, slice_index, Option, Some, None, refl, sym, ap, ◌∙◌, subst, add-one, arith}
 use Rattle.std.specs.Prelude.{map, option_map}
 use Rattle.std.specs.Global.{Vec}
 use Rattle.std.specs.List.{slice_get, list_any}
@@ -108,7 +108,7 @@ module _ (d : Declared) (l : Library) (edges : List (Vec ℕ)) (are : AreMention
       let m = leads_to a b t.0 t.1 h in
       let u = first_of_number m.0 b m.2 in
       (u.0, u.1)
-  ends a b (further {c} h r) = ends c b r
+  ends a z (further {b} h r) = ends b z r
 
   pub within : AreWithin edges
   within a b h =
@@ -126,9 +126,9 @@ module _ (d : Declared) (l : Library) (edges : List (Vec ℕ)) (are : AreMention
 
   chain : (a b : ℕ) → Reaches (HasTarget edges) a b → (t : CommonType) → IsFirst a t → (u : CommonType) × IsFirst b u × Reaches (Edge (refers d l)) (type_name t) (type_name u)
   chain a b (edge h) t f = let u = one_edge a b h t f in (u.0, u.1, edge u.2)
-  chain a b (further {c} h r) t f =
-      let u = one_edge a c h t f in
-      let v = chain c b r u.0 u.1 in
+  chain a z (further {b} h r) t f =
+      let u = one_edge a b h t f in
+      let v = chain b z r u.0 u.1 in
       (v.0, v.1, further u.2 v.2)
 
   pub told : CyclesAreFound → (i : ℕ) (t : CommonType) → slice_get d.types i ≡ Some t → Reaches (HasTarget edges) i i → type_reaches d l (type_name t) (type_name t) ≡ true
@@ -242,13 +242,13 @@ module _ (d : Declared) (l : Library) (edges : List (Vec ℕ)) (are : AreMention
       ]
 
       one_more : (k : ℕ) → k < length order → Settled k → Settled (suc k)
-      one_more k low before t i f s = next_is k low t ∙ elim (eqb_tells i (slice_index order k)) [
+      one_more k low before t i f s = ap (λ j. so_far j t) (sym (add-one k)) ∙ next_is k low t ∙ elim (eqb_tells i (slice_index order k)) [
         | inl e ↦ ap (λ j. with_type d l (so_far k) j t) (sym e.1) ∙ turn k i t low (sym e.1) f before
         | inr e ↦ no_turn k (slice_index order k) i t f e.1 ∙ before t i f (earlier k i s e.1)
       ]
 
       settled : (k : ℕ) → k ≤ length order → Settled k
-      settled zero low t i f s = let lower : s.0 < 0 = s.1 in absurd (omega arith)
+      settled zero low = λ t i f s. let lower : s.0 < 0 = s.1 in absurd (omega arith)
       settled (suc k) low = one_more k (omega arith) (settled k (omega arith))
 
       pub each_settled : (n : Name) (t : CommonType) → type_at d n ≡ Some t → with_types d l (λ u. None) order t ≡ unfolded (length d.types) d l t

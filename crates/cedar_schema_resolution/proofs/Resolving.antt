@@ -1,9 +1,11 @@
 -- One common type more is resolved.
-use Rattle.std.proofs.Common.{◌≡◌, ℕ, Bool, true, false, cond, List, [], ◌∷◌, ◌++◌, Option, Some, None, nat_eq, refl, sym, ap, ◌∙◌, subst, zero-add, inl, inr}
-use Rattle.std.specs.Prelude.{option_map}
+use Rattle.std.proofs.Common.{◌≡◌, ℕ, Bool, true, false, cond, List, [], ◌∷◌, ◌++◌, length, take, get_or, slice_index, ◌+◌, ◌<◌, Option, Some, None, nat_eq, refl, sym, ap, ◌∙◌, subst, zero-add, inl, inr}
+use Rattle.std.specs.Prelude.{map, option_map}
 use Rattle.std.specs.List.{slice_get}
 use Rattle.std.specs.BTreeMap.{is_at}
 use Rattle.std.proofs.lemmas.Bool.{eqb-true, eq-eqb}
+use Rattle.std.proofs.lemmas.List.{take_more}
+use Rattle.std.proofs.lemmas.Option.{slice_get_read, slice_get-map}
 use Rattle.cedar_language.specs.Uid.{Name}
 use Rattle.cedar_language.specs.Order.{same_name, name_cmp}
 use Rattle.cedar_typing.specs.Types.{CedarType, Entities}
@@ -12,8 +14,10 @@ use Rattle.cedar_schema_grammar.specs.Declared.{Library, EntityType, CommonType,
 use Rattle.cedar_schema_grammar.specs.Written.{written}
 use Rattle.cedar_schema.specs.Tables.{entry_at, built_in_at, type_for, IsTableOf}
 use Rattle.cedar_schema.specs.declared.tables.TypeTable.{TypeTable}
+use Rattle.cedar_schema_resolution.specs.Declarations.{type_view}
 use Rattle.cedar_schema_resolution.specs.Numbers.{number_at, number_of, number_for, AreNumbersOf}
-use Rattle.cedar_schema_resolution.specs.Resolved.{is_number, with_type, with_types}
+use Rattle.cedar_schema_resolution.specs.Resolved.{is_number, with_type, with_types, AreResolved}
+use Rattle.cedar_schema_resolution.specs.declared.declarations.DeclaredType.{DeclaredType}
 use Rattle.cedar_schema_resolution.specs.declared.numbers.CommonNumbers.{CommonNumbers}
 use Rattle.cedar_schema_resolution.proofs.Numbering.{IsNumbered, MayBeNumbered, numbered, at_is_same}
 
@@ -147,3 +151,15 @@ pub types_last : (d : Declared) (l : Library) (common : CommonType → Option Ce
     → with_types d l common (xs ++ i ∷ []) ≡ with_type d l (with_types d l common xs) i
 types_last d l common [] i = refl
 types_last d l common (x ∷ xs) i = types_last d l (with_type d l common x) xs i
+
+pub one_more_resolved : (d : Declared) (c : CommonNumbers) (order : List ℕ) (k i : ℕ) (old mid new : TypeTable) → k < length order → i ≡ slice_index order k
+    → AreResolved d c (take k order) old mid → AreResolved d c (i ∷ []) mid new → AreResolved d c (take (k + 1) order) old new
+one_more_resolved d c order k i old mid new low here before now = λ l common are is.
+    let more : with_types d l common (take (k + 1) order) ≡ with_type d l (with_types d l common (take k order)) i
+    = ap (with_types d l common) (take_more order k 0 low ∙ ap (λ j. take k order ++ j ∷ []) (sym here)) ∙ types_last d l common (take k order) i in
+    subst (λ f. IsTableOf f d l new) (sym more) (now l (with_types d l common (take k order)) are (before l common are is))
+
+-- ---- a declared type, as it is read
+
+pub read_at : (ts : List DeclaredType) (i : ℕ) (t : DeclaredType) → i < length ts → t ≡ get_or ts i t → slice_get (map type_view ts) i ≡ Some (type_view t)
+read_at ts i t low e = slice_get-map type_view ts i ∙ ap (option_map type_view) (slice_get_read ts (length ts) i t refl low e)

@@ -26,12 +26,19 @@ impl CommonNumbers {
     pub fn of(alloc: Global, declared: &Declarations<'_>) -> Result<CommonNumbers, AllocError>
         ensures { IfOk result (λ numbers. AreNumbersOf (declared_view declared.now) numbers) }
     {
-        let mut numbers = CommonNumbers {
-            by_name: BTreeMap::new(alloc),
-        };
+        let mut numbers = CommonNumbers::new(alloc);
         numbers.add_entities(alloc, &declared.entities)?;
         numbers.add_types(alloc, &declared.types)?;
         Ok(numbers)
+    }
+
+    // No numbers.
+    fn new(alloc: Global) -> CommonNumbers
+        ensures { (n : Name) → number_at result n ≡ None }
+    {
+        CommonNumbers {
+            by_name: BTreeMap::new(alloc),
+        }
     }
 
     // Puts what stands at a name.
