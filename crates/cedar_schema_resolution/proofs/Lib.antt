@@ -1,4 +1,5 @@
 pub mod Declaring
+pub mod Filling
 pub mod Mentioning
 pub mod Numbering
 pub mod Ordered

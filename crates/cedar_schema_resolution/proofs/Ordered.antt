@@ -117,6 +117,9 @@ module _ (d : Declared) (l : Library) (edges : List (Vec ℕ)) (are : AreMention
       let many : length edges ≡ length d.types = as_many in
       omega arith
 
+  pub below : (i : ℕ) → Reaches (HasTarget edges) i i → i < length d.types
+  below i r = let u = ends i i r in slice_get_within d.types i u.0 u.1.at
+
   -- an edge from the first of its name is to what it mentions
   one_edge : (a b : ℕ) → HasTarget edges a b → (t : CommonType) → IsFirst a t → (u : CommonType) × IsFirst b u × (refers d l (type_name t) (type_name u) ≡ true)
   one_edge a b h t f =
