@@ -1,8 +1,8 @@
 -- What is declared by one more declaration, name or block stands behind what those before it declare.
-use Rattle.std.proofs.Common.{◌≡◌, ℕ, ◌+◌, ◌<◌, List, [], ◌∷◌, ◌++◌, length, take, get_or, append_assoc, refl, sym, ap, ◌∙◌}
+use Rattle.std.proofs.Common.{◌≡◌, ℕ, ◌+◌, ◌<◌, List, [], ◌∷◌, ◌++◌, length, take, get_or, append_assoc, sym, ap, ◌∙◌}
 use Rattle.std.specs.Prelude.{map}
 use Rattle.std.proofs.lemmas.List.{append-nil, map-append, take_more}
-use Rattle.cedar_language.specs.Uid.{Text, Name}
+use Rattle.cedar_language.specs.Uid.{Name}
 use Rattle.cedar_schema_grammar.specs.Syntax.{Declaration, Namespace, SchemaSyntax}
 use Rattle.cedar_schema_grammar.specs.Declared.{of_block, of_blocks}
 use Rattle.cedar_schema_syntax.specs.View.{namespace_view}

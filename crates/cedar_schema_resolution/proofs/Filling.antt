@@ -1,5 +1,5 @@
 -- A table is filled along an order, or a cycle is told.
-use Rattle.std.proofs.Common.{◌≡◌, ℕ, ◌<◌, true, List, length, slice_index, get_or, Option, Some, None, sym, ap, ◌∙◌, subst, arith}
+use Rattle.std.proofs.Common.{◌≡◌, ℕ, ◌<◌, true, List, length, slice_index, get_or, None, sym, ◌∙◌, subst}
 use Rattle.std.specs.Prelude.{map}
 use Rattle.std.specs.Global.{Vec}
 use Rattle.std.proofs.lemmas.List.{length-map}
@@ -9,7 +9,6 @@ use Rattle.cedar_schema_grammar.specs.Declared.{Library, Declared, type_name}
 use Rattle.cedar_schema_grammar.specs.Written.{unfolded, type_reaches}
 use Rattle.cedar_schema_grammar.specs.Laws.{CyclesAreFound, CommonTypesSettle}
 use Rattle.cedar_schema.specs.Orders.{HasTarget, AreWithin, IsOrder}
-use Rattle.cedar_schema.specs.Tables.{IsTableOf}
 use Rattle.cedar_schema.specs.declared.tables.TypeTable.{TypeTable}
 use Rattle.cedar_schema_resolution.specs.Declarations.{type_view, declared_view}
 use Rattle.cedar_schema_resolution.specs.Numbers.{AreNumbersOf}

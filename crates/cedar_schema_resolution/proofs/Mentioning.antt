@@ -1,11 +1,11 @@
 -- The numbers of what types mention.
-use Rattle.std.proofs.Common.{◌≡◌, ◌⊎◌, inl, inr, ℕ, ◌+◌, ◌<◌, List, [], ◌∷◌, ◌++◌, length, take, get_or, Option, Some, None, Box, Vec, Global, append_assoc, refl, sym, ap, ◌∙◌, subst}
+use Rattle.std.proofs.Common.{◌≡◌, inl, inr, ℕ, ◌+◌, ◌<◌, List, [], ◌∷◌, ◌++◌, length, take, get_or, Option, Some, None, Box, Vec, Global, append_assoc, refl, sym, ap, ◌∙◌, subst}
 use Rattle.std.specs.Prelude.{map, option_map, option_to_list}
 use Rattle.std.proofs.lemmas.List.{append-nil, map-append, take_more}
 use Rattle.cedar_language.specs.Uid.{Name}
 use Rattle.cedar_typing.specs.Types.{CedarType}
 use Rattle.cedar_schema_grammar.specs.Syntax as grammar
-use Rattle.cedar_schema_grammar.specs.Declared.{Library, CommonType, Declared, Referent, to_common, to_type, or_else, first_of, places, type_name, type_at, built_in_path, declared_as, referent}
+use Rattle.cedar_schema_grammar.specs.Declared.{Library, CommonType, Declared, Referent, to_common, to_type, or_else, first_of, places, type_name, type_at, built_in_path, declared_as}
 use Rattle.cedar_schema_grammar.specs.Written.{common_name, mentions, mentions_in}
 use Rattle.cedar_schema_grammar.proofs.Unfolding.{referent_is}
 use Rattle.cedar_schema_syntax.specs.View as syntax
@@ -17,7 +17,7 @@ use Rattle.cedar_schema_syntax.proofs.Views.{named_view, set_view, record_view, 
 use Rattle.cedar_schema.proofs.Tabled.{mapped_first}
 use Rattle.cedar_schema_resolution.specs.Declarations.{type_view}
 use Rattle.cedar_schema_resolution.specs.Numbers.{number_at, number_in, named_number, number_of, number_for, AreNumbersOf}
-use Rattle.cedar_schema_resolution.specs.Mentions.{with_number, AreBehind, IsMentioned, IsMentionedIn, mentioned_numbers, AreMentionsOf, AreMentioned}
+use Rattle.cedar_schema_resolution.specs.Mentions.{with_number, AreBehind, IsMentioned, IsMentionedIn, mentioned_numbers, AreMentioned}
 use Rattle.cedar_schema_resolution.specs.declared.declarations.DeclaredType.{DeclaredType}
 use Rattle.cedar_schema_resolution.specs.declared.numbers.CommonNumbers.{CommonNumbers}
 use Rattle.cedar_schema_resolution.proofs.Numbering.{MayBeNumbered, numbered}

@@ -1,5 +1,5 @@
 -- Numbers that are put by names are those of what is declared.
-use Rattle.std.proofs.Common.{◌≡◌, ◌⊎◌, inl, inr, ℕ, zero, suc, ◌+◌, ◌-◌, ◌<◌, ◌≤◌, Bool, true, false, cond, List, [], ◌∷◌, length, drop, get_or, Option, Some, None, refl, sym, ap, ◌∙◌, subst, arith}
+use Rattle.std.proofs.Common.{◌≡◌, ◌⊎◌, inl, inr, ℕ, suc, ◌+◌, ◌-◌, ◌<◌, ◌≤◌, Bool, true, false, cond, List, [], ◌∷◌, length, drop, get_or, Option, Some, None, refl, sym, ap, ◌∙◌, subst, arith}
 use Rattle.std.proofs.Math.Nat.{add-zero}
 use Rattle.std.specs.Prelude.{map, option_map}
 use Rattle.std.specs.List.{find, slice_get}
@@ -10,7 +10,7 @@ use Rattle.cedar_language.specs.Order.{same_name, name_cmp}
 use Rattle.cedar_names.specs.Laws.{name_cmp_ties}
 use Rattle.cedar_typing.proofs.Sameness.{name_is}
 use Rattle.cedar_typing.specs.Types.{Entities}
-use Rattle.cedar_schema_grammar.specs.Declared.{EntityType, CommonType, Declared, Referent, to_common, to_type, or_else, entity_name, type_name, entity_at, type_at, declared_as}
+use Rattle.cedar_schema_grammar.specs.Declared.{EntityType, CommonType, Declared, to_common, to_type, or_else, entity_name, type_name, entity_at, type_at}
 use Rattle.cedar_schema_resolution.specs.Declarations.{entity_view, type_view}
 use Rattle.cedar_schema_resolution.specs.Numbers.{number_at, number_from, number_of, number_for, AreNumbersOf, HasNone, AreNumbered}
 use Rattle.cedar_schema_resolution.specs.declared.declarations.DeclaredEntity.{DeclaredEntity}

@@ -10,7 +10,7 @@ use Rattle.cedar_language.specs.Uid.{Name}
 use Rattle.cedar_language.specs.Order.{same_name, name_cmp}
 use Rattle.cedar_typing.specs.Types.{CedarType, Entities}
 use Rattle.cedar_typing.proofs.Sameness.{name_is, name_same}
-use Rattle.cedar_schema_grammar.specs.Declared.{Library, EntityType, CommonType, Declared, Referent, to_common, to_type, or_else, entity_name, type_name, entity_at, type_at, declared_as}
+use Rattle.cedar_schema_grammar.specs.Declared.{Library, EntityType, CommonType, Declared, to_common, to_type, or_else, entity_name, type_name, entity_at, type_at, declared_as}
 use Rattle.cedar_schema_grammar.specs.Written.{written}
 use Rattle.cedar_schema.specs.Tables.{entry_at, built_in_at, type_for, IsTableOf}
 use Rattle.cedar_schema.specs.declared.tables.TypeTable.{TypeTable}

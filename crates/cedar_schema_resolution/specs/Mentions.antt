@@ -1,5 +1,5 @@
 -- Which common types are written in which, by their numbers.
-use Rattle.std.specs.Prelude.{◌≡◌, ℕ, List, [], ◌∷◌, ◌++◌, map, Option, Some, None, option_to_list}
+use Rattle.std.specs.Prelude.{◌≡◌, ℕ, List, ◌++◌, map, Option, Some, option_to_list}
 use Rattle.std.specs.Global.{Vec}
 use Rattle.cedar_language.specs.Uid.{Name}
 use Rattle.cedar_schema_grammar.specs.Syntax.{TypeSyntax, AttributesSyntax}

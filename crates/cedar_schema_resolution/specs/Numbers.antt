@@ -1,5 +1,5 @@
 -- The numbers of common types, by their names.
-use Rattle.std.specs.Prelude.{◌≡◌, ℕ, ◌+◌, List, [], ◌∷◌, Option, Some, None, option_map}
+use Rattle.std.specs.Prelude.{◌≡◌, ℕ, List, Option, Some, None, option_map}
 use Rattle.std.specs.List.{find, position_from}
 use Rattle.std.specs.BTreeMap.{get}
 use Rattle.cedar_language.specs.Uid.{Name}

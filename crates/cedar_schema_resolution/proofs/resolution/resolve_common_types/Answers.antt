@@ -1,9 +1,9 @@
 -- An order of all common types fills the table, and a cycle of numbers is one of names.
-use Rattle.std.proofs.Common.{◌≡◌, ◌<◌, ℕ, List, length, slice_index, sym, ap, ◌∙◌, subst, arith}
+use Rattle.std.proofs.Common.{◌≡◌, ◌<◌, ℕ, List, length, sym, subst, arith}
 use Rattle.std.specs.Prelude.{map}
 use Rattle.std.specs.Global.{Vec}
-use Rattle.cedar_schema.specs.Orders.{AreWithin, IsOrder, IsCycleOf}
-use Rattle.cedar_schema_resolution.specs.Declarations.{type_view, declared_view}
+use Rattle.cedar_schema.specs.Orders.{IsOrder, IsCycleOf}
+use Rattle.cedar_schema_resolution.specs.Declarations.{type_view}
 use Rattle.cedar_schema_resolution.specs.Mentions.{AreMentioned}
 use Rattle.cedar_schema_resolution.specs.declared.declarations.DeclaredType.{DeclaredType}
 use Rattle.cedar_schema_resolution.specs.declared.numbers.CommonNumbers.{CommonNumbers}

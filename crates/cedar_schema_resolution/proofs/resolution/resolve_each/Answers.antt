@@ -1,5 +1,5 @@
 -- One more is resolved.
-use Rattle.std.proofs.Common.{◌≡◌, ◌<◌, length, slice_index, arith, refl}
+use Rattle.std.proofs.Common.{◌<◌, length, slice_index, arith, refl}
 use Rattle.cedar_schema_resolution.specs.Declarations.{declared_view}
 use Rattle.cedar_schema_resolution.proofs.Resolving.{one_more_resolved}
 use Rattle.cedar_schema_resolution.proofs.resolution.resolve_each.Goals as goal

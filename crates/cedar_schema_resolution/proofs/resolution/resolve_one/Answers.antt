@@ -1,8 +1,7 @@
 -- The first of its name gets what is written for it, and any other changes nothing.
-use Rattle.std.proofs.Common.{◌≡◌, Option, true, sym, ap, ◌∙◌, subst}
+use Rattle.std.proofs.Common.{◌≡◌, true, sym, ap, ◌∙◌, subst}
 use Rattle.std.specs.Prelude.{option_map}
 use Rattle.cedar_schema_grammar.specs.Written.{written}
-use Rattle.cedar_schema_syntax.specs.View as syntax
 use Rattle.cedar_schema.specs.Types as types
 use Rattle.cedar_schema_resolution.specs.Declarations.{declared_view, type_view}
 use Rattle.cedar_schema_resolution.specs.Numbers.{number_at}

@@ -1,5 +1,4 @@
 use Rattle.std.proofs.Common.{◌≡◌, ◌++◌, take}
-use Rattle.std.specs.Prelude.{map}
 use Rattle.cedar_schema_syntax.specs.View as syntax
 use Rattle.cedar_schema_resolution.specs.Declarations.{entities_view, types_view, actions_view, actions_named}
 use Rattle.cedar_schema_resolution.proofs.declarations.Declarations.add_actions.Given as goal

@@ -1,5 +1,4 @@
 use Rattle.std.proofs.Common.{◌≡◌, ◌++◌, take}
-use Rattle.std.specs.Prelude.{map}
 use Rattle.cedar_schema_syntax.specs.View as syntax
 use Rattle.cedar_schema_resolution.specs.Declarations.{body_view, entities_view, types_view, actions_view, entities_named}
 use Rattle.cedar_schema_resolution.proofs.declarations.Declarations.add_entities.Given as goal

@@ -1,5 +1,5 @@
 -- What a type mentions is what its parts mention.
-use Rattle.std.proofs.Common.{◌≡◌, ◌<◌, ◌≤◌, length, get_or, take, arith, subst}
+use Rattle.std.proofs.Common.{◌≡◌, ◌<◌, ◌≤◌, length, get_or, arith, subst}
 use Rattle.std.proofs.lemmas.List.{take_all}
 use Rattle.std.proofs.lemmas.Result.{on_ok_weaker}
 use Rattle.cedar_schema_syntax.specs.View as syntax

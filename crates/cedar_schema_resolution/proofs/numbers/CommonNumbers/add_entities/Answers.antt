@@ -1,5 +1,5 @@
 -- One more stands before those that are put.
-use Rattle.std.proofs.Common.{◌≡◌, ◌<◌, ◌≤◌, ◌-◌, length, drop, get_or, arith, subst}
+use Rattle.std.proofs.Common.{◌≡◌, ◌<◌, ◌≤◌, length, drop, arith, subst}
 use Rattle.std.specs.Prelude.{map}
 use Rattle.cedar_schema_resolution.specs.Declarations.{entity_view}
 use Rattle.cedar_schema_resolution.specs.Numbers.{HasNone}
