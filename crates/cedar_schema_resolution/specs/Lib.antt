@@ -1,4 +1,6 @@
+pub mod BuiltIn
 pub mod Declarations
 pub mod Mentions
 pub mod Numbers
+pub mod Puts
 pub mod Resolved

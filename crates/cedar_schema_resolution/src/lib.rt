@@ -1,11 +1,15 @@
 //! What a schema's text declares, by names, and its common types resolved.
 #![tactic(auto)]
 
+mod built_in;
 mod declarations;
 mod mentions;
 mod numbers;
 mod resolution;
+mod table;
 
+pub use built_in::ExtensionType;
 pub use declarations::{Declarations, DeclaredAction, DeclaredEntity, DeclaredType, EntityBody};
 pub use numbers::CommonNumbers;
 pub use resolution::{ResolutionError, resolve_common_types};
+pub use table::declared_table;
