@@ -6,14 +6,28 @@ use Rattle.std.specs.BTreeMap.{is_at}
 use Rattle.std.proofs.lemmas.List.{drop_more, drop_all}
 use Rattle.cedar_language.specs.Uid.{Text, Name}
 use Rattle.cedar_language.specs.Order.{same_text, same_name, name_cmp}
-use Rattle.cedar_typing.specs.Types.{Unsure, CedarType, Booleans, Longs, Strings}
+use Rattle.cedar_typing.specs.Types.{Unsure, CedarType, Field, Booleans, Longs, Strings}
 use Rattle.cedar_typing.proofs.Sameness.{text_is, text_same}
 use Rattle.cedar_schema_grammar.specs.Declared.{Library, built_in, built_in_path}
+use Rattle.cedar_schema.specs.Types.{type_step, attribute_step, type_view}
 use Rattle.cedar_schema.specs.Tables.{built_in_at}
+use Rattle.cedar_schema.specs.declared.types.SchemaType.{fold-roll-SchemaType}
+use Rattle.cedar_schema.specs.declared.types.SchemaType.TheVariants as types
 use Rattle.cedar_schema.specs.declared.tables.TypeTable.{TypeTable}
 use Rattle.cedar_schema_resolution.specs.BuiltIn.{is_built_in_as, extension_view, HasTypes, IsBuiltIn, first_built_in, AreBuiltIn}
 use Rattle.cedar_schema_resolution.specs.declared.built_in.ExtensionType.{ExtensionType}
 use Rattle.cedar_schema_resolution.proofs.Numbering.{at_is_same}
+
+-- ---- the views of the language's own types
+
+pub boolean_view : type_view types.Boolean ≡ Booleans Unsure
+boolean_view = ap type_view (sym types.rolls-Boolean) ∙ fold-roll-SchemaType CedarType Field type_step attribute_step _
+
+pub long_view : type_view types.Long ≡ Longs
+long_view = ap type_view (sym types.rolls-Long) ∙ fold-roll-SchemaType CedarType Field type_step attribute_step _
+
+pub string_view : type_view types.String ≡ Strings
+string_view = ap type_view (sym types.rolls-String) ∙ fold-roll-SchemaType CedarType Field type_step attribute_step _
 
 -- ---- one is put twice
 
