@@ -7,6 +7,8 @@ mod mentions;
 mod numbers;
 mod resolution;
 mod table;
+#[cfg(test)]
+mod tests;
 
 pub use built_in::ExtensionType;
 pub use declarations::{Declarations, DeclaredAction, DeclaredEntity, DeclaredType, EntityBody};

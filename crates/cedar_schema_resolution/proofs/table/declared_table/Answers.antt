@@ -1,5 +1,5 @@
 -- What is put over the built-in types is what is declared.
-use Rattle.std.proofs.Common.{Some, None, subst, sym, ◌∙◌}
+use Rattle.std.proofs.Common.{Some, None, subst}
 use Rattle.std.specs.Prelude.{map}
 use Rattle.cedar_typing.specs.Types.{Entities}
 use Rattle.cedar_schema_grammar.specs.Declared.{entity_name, type_name}
