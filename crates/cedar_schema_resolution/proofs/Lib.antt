@@ -6,3 +6,4 @@ pub mod Numbering
 pub mod Ordered
 pub mod Putting
 pub mod Resolving
+pub mod Shaping

@@ -4,3 +4,4 @@ pub mod Mentions
 pub mod Numbers
 pub mod Puts
 pub mod Resolved
+pub mod Shapes

@@ -6,6 +6,7 @@ mod declarations;
 mod mentions;
 mod numbers;
 mod resolution;
+mod shapes;
 mod table;
 #[cfg(test)]
 mod tests;
@@ -14,4 +15,5 @@ pub use built_in::ExtensionType;
 pub use declarations::{Declarations, DeclaredAction, DeclaredEntity, DeclaredType, EntityBody};
 pub use numbers::CommonNumbers;
 pub use resolution::{ResolutionError, resolve_common_types};
+pub use shapes::EntityShape;
 pub use table::declared_table;

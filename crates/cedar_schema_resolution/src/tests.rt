@@ -4,8 +4,8 @@ use crate::{Declarations, ExtensionType, ResolutionError, declared_table, resolv
 use cedar_names::texts::SharedText;
 use cedar_schema::{SchemaType, TypeName};
 use cedar_schema_syntax::{
-    CommonTypeSyntax, Declaration, EnumerationSyntax, Name, Namespace, Path, SchemaSyntax,
-    TypeSyntax,
+    Attribute, CommonTypeSyntax, Declaration, EntitySyntax, EnumerationSyntax, Name, Namespace,
+    Path, Presence, SchemaSyntax, TypeSyntax,
 };
 use std::alloc::{AllocError, Global};
 use std::rc::RcStr;
@@ -137,16 +137,20 @@ fn schema_of(alloc: Global, lines: &[Line<'_>]) -> Result<SchemaSyntax, AllocErr
     Ok(SchemaSyntax { namespaces })
 }
 
-/// What the common type `A` of a namespace is.
-fn common_a(alloc: Global, namespace: &str, lines: &[Line<'_>]) -> Result<Found, AllocError> {
-    let schema = schema_of(alloc, lines)?;
-    let declared = Declarations::from_syntax(alloc, &schema)?;
+fn extensions(alloc: Global) -> Result<Vec<ExtensionType>, AllocError> {
     let mut extensions = Vec::new(alloc);
     extensions.push(ExtensionType {
         name: SharedText::new(RcStr::from_str(alloc, "ipaddr")?),
         is_ordered: false,
     })?;
-    let mut table = declared_table(alloc, &declared, &extensions)?;
+    Ok(extensions)
+}
+
+/// What the common type `A` of a namespace is.
+fn common_a(alloc: Global, namespace: &str, lines: &[Line<'_>]) -> Result<Found, AllocError> {
+    let schema = schema_of(alloc, lines)?;
+    let declared = Declarations::from_syntax(alloc, &schema)?;
+    let mut table = declared_table(alloc, &declared, &extensions(alloc)?)?;
     match resolve_common_types(alloc, &declared, &mut table) {
         Ok(()) => {}
         Err(ResolutionError::CycleInCommonTypeReferences(name)) => {
@@ -262,6 +266,80 @@ fn common_types_are_resolved(rt: HostRuntime) -> Result<(), Fail> {
     ];
     for (shows, namespace, lines, wanted) in cases {
         assert_eq!(rt; common_a(rt.alloc(), namespace, lines)?, wanted, "{shows}");
+    }
+    Ok(())
+}
+
+/// `entity S {a?: ATTRIBUTE} tags TAGS;`
+fn shaped(alloc: Global, attribute: &str, tags: &str) -> Result<Declaration, AllocError> {
+    let mut names = Vec::new(alloc);
+    names.push(name_of(alloc, "S")?)?;
+    let mut attributes = Vec::new(alloc);
+    attributes.push(Attribute {
+        name: name_of(alloc, "a")?,
+        presence: Presence::Optional,
+        written: TypeSyntax::Named(path_of(alloc, "", attribute)?),
+    })?;
+    Ok(Declaration::Entities(EntitySyntax {
+        names,
+        parents: Vec::new(alloc),
+        attributes,
+        tags: Some(TypeSyntax::Named(path_of(alloc, "", tags)?)),
+    }))
+}
+
+/// A shape's attribute `a`, and the kind of its tags.
+type Shape = (Option<(Presence, Kind)>, Option<Kind>);
+
+/// The shape of `S`, beside an enumeration `E` and the sets `A`.
+fn shape_of(alloc: Global, attribute: &str, tags: &str) -> Result<Option<Shape>, AllocError> {
+    let mut schema = schema_of(alloc, &[("", "A", "", "Long")])?;
+    schema
+        .namespaces
+        .push(block_of(alloc, "", shaped(alloc, attribute, tags)?)?)?;
+    let declared = Declarations::from_syntax(alloc, &schema)?;
+    let mut table = declared_table(alloc, &declared, &extensions(alloc)?)?;
+    let Ok(()) = resolve_common_types(alloc, &declared, &mut table) else {
+        return Ok(None);
+    };
+    let Some(entity) = declared.entities.last() else {
+        return Ok(None);
+    };
+    let Some(shape) = entity.shape(alloc, &table)? else {
+        return Ok(None);
+    };
+    let name = SharedText::new(RcStr::from_str(alloc, "a")?);
+    let found = match shape.attributes.get(&name) {
+        Some(found) => Some((found.presence, kind_of(&found.schema_type))),
+        None => None,
+    };
+    let tags = match &shape.tags {
+        Some(tags) => Some(kind_of(tags)),
+        None => None,
+    };
+    Ok(Some((found, tags)))
+}
+
+#[test]
+fn entity_types_have_their_shapes(rt: HostRuntime) -> Result<(), Fail> {
+    let cases = [
+        ("common types", "A", "A", Some((Kind::Set, Some(Kind::Set)))),
+        (
+            "an entity type",
+            "E",
+            "Long",
+            Some((Kind::Entity, Some(Kind::Long))),
+        ),
+        ("itself", "S", "S", Some((Kind::Entity, Some(Kind::Entity)))),
+        ("an attribute without a type", "X", "Long", None),
+        ("tags without a type", "Long", "X", Some((Kind::Long, None))),
+    ];
+    for (shows, attribute, tags, wanted) in cases {
+        let wanted = match wanted {
+            Some((kind, tags)) => Some((Some((Presence::Optional, kind)), tags)),
+            None => None,
+        };
+        assert_eq!(rt; shape_of(rt.alloc(), attribute, tags)?, wanted, "{shows}");
     }
     Ok(())
 }
