@@ -1,12 +1,11 @@
 -- A shape is what is made of its attributes and its tags.
-use Rattle.std.proofs.Common.{◌≡◌, length, Option, Some, None, refl, sym, ap, ◌∙◌, subst}
+use Rattle.std.proofs.Common.{length, Option, Some, None, ap, ◌∙◌}
 use Rattle.std.specs.Prelude.{option_map}
 use Rattle.std.specs.BTreeMap.{BTreeMap}
 use Rattle.cedar_language.specs.Uid.{Text, Name}
 use Rattle.cedar_grammar.specs.Steps.{◌>>=◌}
-use Rattle.cedar_typing.specs.Types.{CedarType, Records, Fields}
-use Rattle.cedar_typing.specs.Schema as typing
-use Rattle.cedar_schema_grammar.specs.Syntax.{TypeSyntax, AttributesSyntax, a_record, EntitySyntax}
+use Rattle.cedar_typing.specs.Types.{CedarType, Records}
+use Rattle.cedar_schema_grammar.specs.Syntax.{TypeSyntax, a_record, EntitySyntax}
 use Rattle.cedar_schema_grammar.specs.Declared.{shaped}
 use Rattle.cedar_schema_grammar.specs.Written.{unfolded, type_in}
 use Rattle.cedar_schema_grammar.specs.Resolving as grammar
