@@ -1,5 +1,5 @@
 mod Puts
-mod Tabled
+pub mod Tabled
 pub mod TypeViews
 mod Walking
 pub mod Within

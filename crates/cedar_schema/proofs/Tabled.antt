@@ -18,7 +18,7 @@ or_else_mapped : {B C : Type 0} (g : B → C) (o p : Option B) → or_else (opti
 or_else_mapped g (Some x) p = refl
 or_else_mapped g None p = refl
 
-mapped_first : {A B C : Type 0} (f : A → Option B) (g : B → C) (h : A → Option C) → ((x : A) → h x ≡ option_map g (f x)) → (xs : List A)
+pub mapped_first : {A B C : Type 0} (f : A → Option B) (g : B → C) (h : A → Option C) → ((x : A) → h x ≡ option_map g (f x)) → (xs : List A)
     → first_of h xs ≡ option_map g (first_of f xs)
 mapped_first f g h e [] = refl
 mapped_first f g h e (x ∷ xs) =
@@ -83,24 +83,17 @@ places_path namespace (s ∷ t ∷ p) e = refl
 
 -- ---- what is found there
 
+pub alone_ends : {B : Type 0} (o : Option B) → or_else o None ≡ o
+alone_ends (Some x) = refl
+alone_ends None = refl
+
 module _ (t : TypeTable) (namespace p : Name) where
   abbrev pub Finds : Option (Option SchemaType) → Type 0
   Finds o = option_map (option_map type_view) o ≡ first_of (entry_at t) (places namespace p)
 
-  alone_ends : (o : Option (Option CedarType)) → or_else o None ≡ o
-  alone_ends (Some x) = refl
-  alone_ends None = refl
-
-  pub found_path : (length p ≡ 1 → ⊥) → Finds (get name_cmp t.declared p)
-  found_path e = sym (ap (first_of (entry_at t)) (places_path namespace p e) ∙ alone_ends (entry_at t p))
-
-  pub found_within : length p ≡ 1 → (o : Option SchemaType) → get name_cmp t.declared (namespace ++ p) ≡ Some o → Finds (Some o)
-  found_within e o f = sym (ap (first_of (entry_at t)) (places_alone namespace p e)
-      ∙ ap (λ g. or_else (option_map (option_map type_view) g) (first_of (entry_at t) (p ∷ []))) f)
-
-  pub found_alone : length p ≡ 1 → get name_cmp t.declared (namespace ++ p) ≡ None → Finds (get name_cmp t.declared p)
-  found_alone e f = sym (ap (first_of (entry_at t)) (places_alone namespace p e)
-      ∙ ap (λ g. or_else (option_map (option_map type_view) g) (first_of (entry_at t) (p ∷ []))) f ∙ alone_ends (entry_at t p))
+  pub found_first : (o : Option (Option SchemaType)) (ps : List Name) → o ≡ first_of (get name_cmp t.declared) ps → ps ≡ places namespace p → Finds o
+  found_first o ps e f =
+      ap (option_map (option_map type_view)) e ∙ sym (mapped_first (get name_cmp t.declared) (option_map type_view) (entry_at t) (λ n. refl) ps) ∙ ap (first_of (entry_at t)) f
 
   -- and then its type
   pub type_found : (o : Option SchemaType) → Finds (Some o) → option_map type_view o ≡ named_type t namespace p

@@ -4,7 +4,7 @@ use Rattle.std.specs.Prelude.{option_map}
 use Rattle.std.specs.List.{slice_index_or}
 use Rattle.std.proofs.lemmas.List.{drop_more, drop_all, append-nil}
 use Rattle.cedar_language.specs.Uid.{Text, Name}
-use Rattle.cedar_typing.specs.Types.{CedarType, Sets, Records, Field}
+use Rattle.cedar_typing.specs.Types.{CedarType, Sets, Records, Field, Fields}
 use Rattle.cedar_schema_grammar.specs.Syntax as grammar
 use Rattle.cedar_schema_grammar.specs.Declared.{Library, CommonType, Declared}
 use Rattle.cedar_schema_grammar.specs.Written.{written}
@@ -33,6 +33,16 @@ module _ (t : TypeTable) (namespace : Name) (s : TypeSyntax) (o : Option CedarTy
   written_record v q e f g = λ common d l is.
       subst (λ x. o ≡ written common d l namespace x) (sym (ap syntax.type_view e ∙ record_view v))
       (g ∙ ap (λ r. option_map Records (all_in_order r)) (f common d l is) ∙ ap (option_map Records) (sym (fields_are common d l namespace (syntax.attributes_view v.items))))
+
+-- the attributes of a record, by a map
+pub attributes_written : (t : TypeTable) (namespace : Name) (xs : grammar.AttributesSyntax) (q : Option (List (Text × Field))) (o : Option Fields) → AreTyped t namespace xs q → o ≡ all_in_order q
+    → IsWritten t namespace (grammar.a_record xs) (option_map Records o)
+attributes_written t namespace xs q o f e = λ common d l is.
+    ap (option_map Records) (e ∙ ap all_in_order (f common d l is) ∙ sym (fields_are common d l namespace xs))
+
+pub mapped_twice : {A : Type 0} (f : A → Fields) (o : Option A) → option_map (λ x. Records (f x)) o ≡ option_map Records (option_map f o)
+mapped_twice f (Some x) = refl
+mapped_twice f None = refl
 
 -- ---- attributes, one after another
 

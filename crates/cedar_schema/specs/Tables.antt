@@ -1,5 +1,5 @@
 -- What a table of names says, and the types that are written by it.
-use Rattle.std.specs.Prelude.{◌≡◌, List, [], ◌∷◌, map, Option, Some, None, option_map}
+use Rattle.std.specs.Prelude.{◌≡◌, List, [], ◌∷◌, map, Option, Some, None, option_map, option_to_list}
 use Rattle.std.specs.BTreeMap.{get}
 use Rattle.cedar_language.specs.Uid.{Text, Name}
 use Rattle.cedar_language.specs.Order.{name_cmp}
@@ -8,7 +8,12 @@ use Rattle.cedar_schema_grammar.specs.Syntax.{TypeSyntax, AttributesSyntax, no_a
 use Rattle.cedar_schema_grammar.specs.Declared.{Library, CommonType, Declared, Referent, first_of, places, built_in_path, declared_as}
 use Rattle.cedar_schema_grammar.specs.Written.{with_field, stands_for, written}
 use Rattle.cedar_schema.specs.Types.{type_view}
+use Rattle.cedar_schema.specs.declared.places.Places.{Places}
 use Rattle.cedar_schema.specs.declared.tables.TypeTable.{TypeTable}
+
+-- the names at which a name is looked up
+abbrev pub places_view : Places → List Name
+places_view p = p.first ∷ option_to_list p.second
 
 -- what stands at a full name: nothing where it isn't declared, and no type while that isn't known
 abbrev pub entry_at : TypeTable → Name → Option (Option CedarType)

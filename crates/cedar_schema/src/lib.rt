@@ -3,6 +3,7 @@
 
 mod names;
 mod ordering;
+mod places;
 mod tables;
 #[cfg(test)]
 mod tests;
@@ -11,5 +12,6 @@ mod written;
 
 pub use names::TypeName;
 pub use ordering::{OrderError, order_by_targets};
+pub use places::Places;
 pub use tables::TypeTable;
 pub use types::{AttributeType, SchemaType};

@@ -1,10 +1,10 @@
 // Names of types, by their full paths.
-ghost use Rattle.std.specs.Prelude.{◌≡◌, ◌++◌, IfOk, map};
+ghost use Rattle.std.specs.Prelude.{◌≡◌, [], ◌∷◌, ◌++◌, IfOk, map};
 ghost use Rattle.std.specs.Rc.{rc_str_bytes};
-ghost use Rattle.cedar_schema_syntax.specs.View.{path_view};
+ghost use Rattle.cedar_schema_syntax.specs.View.{name_view, path_view};
 
 use cedar_names::texts::SharedText;
-use cedar_schema_syntax::Path;
+use cedar_schema_syntax::{Name, Path};
 use std::alloc::{AllocError, Global};
 use std::cmp::Ordering;
 use std::fmt;
@@ -75,6 +75,19 @@ impl TypeName {
         ensures { IfOk result (λ name. name ≡ namespace.now ++ path_view path.now) }
     {
         let words = with_words(copied(alloc, namespace)?, &path.words)?;
+        TypeName::new(alloc, words)
+    }
+
+    /// The name that is declared in a namespace; refused for memory alone.
+    pub fn declared(
+        alloc: Global,
+        namespace: &[SharedText],
+        own: &Name,
+    ) -> Result<TypeName, AllocError>
+        ensures { IfOk result (λ name. name ≡ namespace.now ++ name_view own.now ∷ []) }
+    {
+        let mut words = copied(alloc, namespace)?;
+        words.push(SharedText::new(own.text.clone()?))?;
         TypeName::new(alloc, words)
     }
 

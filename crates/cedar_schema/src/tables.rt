@@ -10,6 +10,7 @@ ghost use Rattle.cedar_schema.specs.Types.{type_view, fields_of, typed_views};
 ghost use Rattle.cedar_schema.specs.Tables.{entry_at, built_in_at, named_type, in_order};
 
 use crate::names::TypeName;
+use crate::places::Places;
 use crate::types::{AttributeType, SchemaType};
 use cedar_names::texts::SharedText;
 use cedar_schema_syntax::Path;
@@ -74,7 +75,7 @@ impl TypeTable {
         Ok(())
     }
 
-    // What stands at a declared name: a name alone is looked up in the namespace, then in none; a path as it is written.
+    // What stands at a declared name, as it is written in a namespace.
     fn declared_at(
         &self,
         alloc: Global,
@@ -84,15 +85,7 @@ impl TypeTable {
         ensures { IfOk result (λ known. option_map (option_map type_view) (option_copied known)
             ≡ first_of (entry_at self.now) (places namespace.now (path_view path.now))) }
     {
-        let alone = TypeName::from_path(alloc, path)?;
-        if path.words.len() != 1 {
-            return Ok(self.declared.get(&alone));
-        }
-        let within = TypeName::within(alloc, namespace, path)?;
-        match self.declared.get(&within) {
-            Some(known) => Ok(Some(known)),
-            None => Ok(self.declared.get(&alone)),
-        }
+        Ok(Places::of(alloc, namespace, path)?.find(&self.declared))
     }
 
     /// The type that a name stands for in a namespace: what is declared goes before what is built in. None where nothing of

@@ -2,8 +2,9 @@
 ghost use Rattle.std.specs.Prelude.{◌≡◌, [], ◌∷◌, ◌++◌, IfOk, OnOk};
 ghost use Rattle.std.specs.Option.{option_map};
 ghost use Rattle.cedar_typing.specs.Types.{Sets, Records};
+ghost use Rattle.cedar_schema_grammar.specs.Syntax.{a_record};
 ghost use Rattle.cedar_schema_syntax.specs.View as syntax;
-ghost use Rattle.cedar_schema.specs.Types.{type_view, typed_views};
+ghost use Rattle.cedar_schema.specs.Types.{type_view, fields_of, typed_views};
 ghost use Rattle.cedar_schema.specs.Tables.{all_in_order, IsWritten, AreTyped};
 
 use crate::tables::{TypeTable, attributes_by_name};
@@ -11,6 +12,7 @@ use crate::types::{AttributeType, SchemaType};
 use cedar_names::texts::SharedText;
 use cedar_schema_syntax::{Attribute, TypeSyntax};
 use std::alloc::{AllocError, Global};
+use std::collections::BTreeMap;
 use std::rc::Rc;
 
 // The sets of a type, if that is known.
@@ -85,6 +87,22 @@ impl TypeTable {
                 let typed = self.typed_attributes(alloc, namespace, attributes)?;
                 record_of(alloc, typed)
             }
+        }
+    }
+
+    /// The attributes of a record that is written in a namespace, as `written_type` has them.
+    pub fn written_attributes(
+        &self,
+        alloc: Global,
+        namespace: &[SharedText],
+        attributes: &[Attribute],
+    ) -> Result<Option<BTreeMap<SharedText, AttributeType>>, AllocError>
+        ensures { IfOk result (λ o. IsWritten self.now namespace.now (a_record (syntax.attributes_view attributes.now))
+            (option_map (λ m. Records (fields_of m)) o)) }
+    {
+        match self.typed_attributes(alloc, namespace, attributes)? {
+            Some(typed) => attributes_by_name(alloc, typed),
+            None => Ok(None),
         }
     }
 

@@ -3,11 +3,11 @@ mod Complete
 mod Sound
 mod DeclarationsSound
 mod Texts
-mod Reaching
+pub mod Reaching
 mod SchemaRows
 mod ResolvedRows
-mod Pigeons
-mod Unfolding
+pub mod Pigeons
+pub mod Unfolding
 mod Whole
 mod Conforming
 mod Environments

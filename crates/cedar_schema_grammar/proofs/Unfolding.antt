@@ -77,7 +77,7 @@ module _ (d : Declared) (l : Library) where
       by (inl f) = common_is (type_at d m) u f
       by (inr f) = absurd (no_common (λ x. Entities (entity_name x)) (entity_at d m) u f)
 
-  referent_is : (namespace n : Name) (u : CommonType) → referent d l namespace n ≡ Some (to_common u) → type_at d (type_name u) ≡ Some u
+  pub referent_is : (namespace n : Name) (u : CommonType) → referent d l namespace n ≡ Some (to_common u) → type_at d (type_name u) ≡ Some u
   referent_is namespace n u e = by (or_else_is (first_of (declared_as d) (places namespace n)) (option_map to_type (built_in_path l n)) (to_common u) e)
     where
       by : (first_of (declared_as d) (places namespace n) ≡ Some (to_common u)) ⊎ (option_map to_type (built_in_path l n) ≡ Some (to_common u)) → type_at d (type_name u) ≡ Some u
@@ -196,7 +196,7 @@ module _ (d : Declared) (l : Library) where
   abbrev pub Leads : Name → Name → Type 0
   Leads = Reaches (Edge (refers d l))
 
-  refers_if : (n m : Name) (t : CommonType) → type_at d n ≡ Some t → IsAmong m (mentions d l t.namespace t.type) → refers d l n m ≡ true
+  pub refers_if : (n m : Name) (t : CommonType) → type_at d n ≡ Some t → IsAmong m (mentions d l t.namespace t.type) → refers d l n m ≡ true
   refers_if n m t e a = subst (λ o. list_any (same_name m) (mentioned d l o) ≡ true) (sym e) (among_any m (mentions d l t.namespace t.type) a)
 
   abbrev pub AllLead : List Name → Name → Type 0
@@ -261,3 +261,38 @@ module _ (d : Declared) (l : Library) (c e : CommonType → Option CedarType) (m
 pub deeper_is_the_same : (d : Declared) (l : Library) (k : ℕ) (t : CommonType) (x : CedarType) → unfolded k d l t ≡ Some x → unfolded (suc k) d l t ≡ Some x
 deeper_is_the_same d l zero t x h = absurd (cc h)
 deeper_is_the_same d l (suc k) t x h = written_more d l (λ u. unfolded k d l u) (λ u. unfolded (suc k) d l u) (λ u y. deeper_is_the_same d l k u y) t.namespace t.type x h
+
+-- ---- as deep as there are common types is deep enough
+
+-- where two ways to unfold agree on what is mentioned, both write the same
+module _ (d : Declared) (l : Library) (c e : CommonType → Option CedarType) where
+  abbrev pub Agree : List Name → Type 0
+  Agree ns = (u : CommonType) → type_at d (type_name u) ≡ Some u → IsAmong (type_name u) ns → c u ≡ e u
+
+  stands_alike : (namespace n : Name) (o : Option Referent) → referent d l namespace n ≡ o → Agree (common_name o) → stands_for c o ≡ stands_for e o
+  stands_alike namespace n None r a = refl
+  stands_alike namespace n (Some (to_common u)) r a = a u (referent_is d l namespace n u r) (inl refl)
+  stands_alike namespace n (Some (to_type t)) r a = refl
+
+  mutual
+    pub written_alike : (namespace : Name) (t : TypeSyntax) → Agree (mentions d l namespace t) → written c d l namespace t ≡ written e d l namespace t
+    written_alike namespace (named n) a = stands_alike namespace n (referent d l namespace n) refl a
+    written_alike namespace (a_set t) a = ap (option_map Sets) (written_alike namespace t a)
+    written_alike namespace (a_record xs) a = ap (option_map Records) (fields_alike namespace xs a)
+
+    fields_alike : (namespace : Name) (xs : AttributesSyntax) → Agree (mentions_in d l namespace xs) → written_fields c d l namespace xs ≡ written_fields e d l namespace xs
+    fields_alike namespace no_attributes a = refl
+    fields_alike namespace (an_attribute k p t xs) a =
+        ap (λ o. with_field k p o (written_fields c d l namespace xs)) (written_alike namespace t (λ u s m. a u s (among_front (type_name u) (mentions d l namespace t) (mentions_in d l namespace xs) m)))
+        ∙ ap (with_field k p (written e d l namespace t)) (fields_alike namespace xs (λ u s m. a u s (among_back (type_name u) (mentions d l namespace t) (mentions_in d l namespace xs) m)))
+
+module _ (d : Declared) (l : Library) (acyclic : (n : Name) → Leads d l n n → ⊥) where
+  -- by how many common types are left that don't lead to it
+  pub settles : (k : ℕ) (t : CommonType) → type_at d (type_name t) ≡ Some t → (seen : List Name) → AllApart seen → AllAmong seen (map type_name d.types) → AllLead d l seen (type_name t) →
+      length (map type_name d.types) ≤ k + length seen → unfolded k d l t ≡ unfolded (suc k) d l t
+  settles zero t e seen apart among lead h =
+      let many = no_more_than (type_name t ∷ seen) (map type_name d.types) (not_seen d l acyclic (type_name t) seen lead, apart) (name_among d l acyclic t e, among) in
+      absurd (omega arith)
+  settles (suc k) t e seen apart among lead h =
+      written_alike d l (λ u. unfolded k d l u) (λ u. unfolded (suc k) d l u) t.namespace t.type
+      (λ u s m. let step = refers_if d l (type_name t) (type_name u) t e m in settles k u s (type_name t ∷ seen) (not_seen d l acyclic (type_name t) seen lead, apart) (name_among d l acyclic t e, among) (edge step, lead_on d l seen (type_name t) (type_name u) step lead) (omega arith))

@@ -1,5 +1,5 @@
 -- What is proved of schemas' texts.
-use Rattle.std.specs.Prelude.{◌≡◌, ◌↔◌, Bool, true, List, [], ◌∷◌, length, Some, is_some}
+use Rattle.std.specs.Prelude.{◌≡◌, ◌↔◌, Bool, true, false, List, [], ◌∷◌, length, Some, is_some}
 use Rattle.cedar_language.specs.Uid.{Text, Name, Uid}
 use Rattle.cedar_language.specs.Facts.{Facts, Reaches, DecidesReaches}
 use Rattle.cedar_grammar.specs.Steps.{◌>>=◌}
@@ -9,7 +9,7 @@ use Rattle.cedar_schema_grammar.specs.Syntax.{TypeSyntax, a_record, EntitySyntax
 use Rattle.cedar_schema_grammar.specs.Tokens.{Token}
 use Rattle.cedar_schema_grammar.specs.Grammar.{SchemaRule, Says}
 use Rattle.cedar_schema_grammar.specs.Reading.{syntax_of, said}
-use Rattle.cedar_schema_grammar.specs.Declared.{Library, shaped, EntityType, CommonType, Action, Declared, declared, entity_at, type_at, action_at}
+use Rattle.cedar_schema_grammar.specs.Declared.{Library, shaped, EntityType, CommonType, Action, Declared, type_name, declared, entity_at, type_at, action_at}
 use Rattle.cedar_schema_grammar.specs.Reaching.{Edge}
 use Rattle.cedar_schema_grammar.specs.Written.{unfolded, type_in, refers, type_reaches}
 use Rattle.cedar_schema_grammar.specs.Faults.{contexts_of, is_in_group}
@@ -37,6 +37,12 @@ ParentsAreTransitive = (l : Library) (d : Declared) (n m : Name) → ((schema_of
 -- a common type is told to be in a cycle exactly where references lead from it to itself
 abbrev pub CyclesAreFound : Type 0
 CyclesAreFound = (l : Library) (d : Declared) (n m : Name) → (type_reaches d l n m ≡ true) ↔ Reaches (Edge (refers d l)) n m
+
+-- where no common type is within itself, each is the type that is written for it
+abbrev pub CommonTypesSettle : Type 0
+CommonTypesSettle =
+    (l : Library) (d : Declared) → ((n : Name) → type_reaches d l n n ≡ false) → (t : CommonType) → type_at d (type_name t) ≡ Some t →
+    unfolded (length d.types) d l t ≡ type_in d l t.namespace t.type
 
 -- ---- of a schema without faults
 

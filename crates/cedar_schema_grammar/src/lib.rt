@@ -2,7 +2,7 @@
 #![tactic(auto)]
 
 ghost use Rattle.cedar_schema_grammar.specs.Environments.{EnvironmentsAreListed};
-ghost use Rattle.cedar_schema_grammar.specs.Laws.{TokensAreRead, TextsAreRead, OneSchema, GroupsAreTransitive, ParentsAreTransitive, CyclesAreFound, CommonTypesUnfold, NothingIsLeftOut, ContextsAreWhole, AncestorsConform, ActionsConform};
+ghost use Rattle.cedar_schema_grammar.specs.Laws.{TokensAreRead, TextsAreRead, OneSchema, GroupsAreTransitive, ParentsAreTransitive, CyclesAreFound, CommonTypesSettle, CommonTypesUnfold, NothingIsLeftOut, ContextsAreWhole, AncestorsConform, ActionsConform};
 
 use cedar_typing::parents_are_enough;
 
@@ -23,6 +23,11 @@ pub fn hierarchies_are_transitive()
     ensures groups { GroupsAreTransitive }
     ensures parents { ParentsAreTransitive }
     ensures cycles { CyclesAreFound }
+{}
+
+/// Where no common type is within itself, each is the type that is written for it, also of a text with other faults.
+pub fn common_types_settle()
+    ensures { CommonTypesSettle }
 {}
 
 /// Of a text without faults each common type is the type that is written for it, and nothing is left out that is written of an
