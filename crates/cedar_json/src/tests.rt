@@ -1,6 +1,11 @@
 // Texts of JSON and their Cedar texts, and texts that say nothing.
 
-use crate::{Unread, read_entities, read_value};
+use crate::{
+    SplitError, Unread, answer_text, entity_texts, read_entities, read_question, read_value,
+};
+use cedar_policy_parts::{Decision, PolicyID};
+use cedar_replies::{Answer, Erring, ErrorKind, PolicyIds};
+use std::alloc::{AllocError, Global};
 
 /// Whether the answer is this Cedar text.
 fn is_written(answer: Result<String, Unread>, text: &str) -> bool {
@@ -104,5 +109,197 @@ fn others_are_no_entities(rt: HostRuntime) {
     ];
     for json in cases {
         assert!(rt; is_unsaid(read_entities(rt.alloc(), json)), "{json}");
+    }
+}
+
+#[test]
+fn questions_are_written(rt: HostRuntime) {
+    let cases = [
+        // an entity in each of its forms, and no context
+        (
+            r#"{"principal": {"type": "U", "id": "a"}, "action": {"__entity": {"type": "Action", "id": "view"}},
+                "resource": "A::B::\"x\""}"#,
+            r#"{"principal": U::"a","action": Action::"view","resource": A::B::"x","context": {},}"#,
+        ),
+        // other order, blanks in a string, and an escape of Cedar's
+        (
+            r#"{"context": {"n": 1}, "resource": " U :: \"a\\n\" ", "principal": "permit::\"p\"", "action": "A::\"x\""}"#,
+            r#"{"principal": permit::"p","action": A::"x","resource": U::"a\n","context": {"n": 1,},}"#,
+        ),
+    ];
+    for (json, text) in cases {
+        assert!(rt; is_written(read_question(rt.alloc(), json), text), "{json}");
+    }
+}
+
+#[test]
+fn others_are_no_questions(rt: HostRuntime) {
+    let cases = [
+        ("{}", "no parts"),
+        (
+            r#"{"principal": "U::\"a\"", "action": "A::\"x\""}"#,
+            "no resource",
+        ),
+        (
+            r#"{"principal": "U::\"a\"", "action": "A::\"x\"", "resource": "U::\"b\"", "content": {}}"#,
+            "another key",
+        ),
+        (
+            r#"{"principal": "U::\"a\"", "action": "A::\"x\"", "resource": "U::\"b\"", "context": []}"#,
+            "a list as context",
+        ),
+        (
+            r#"{"principal": "U::\"a\"", "action": "A::\"x\"", "resource": "U::\"b\"", "action": "A::\"x\""}"#,
+            "a key twice",
+        ),
+        (
+            r#"{"principal": "\"a\"", "action": "A::\"x\"", "resource": "U::\"b\""}"#,
+            "no type",
+        ),
+        (
+            r#"{"principal": "U::a", "action": "A::\"x\"", "resource": "U::\"b\""}"#,
+            "no string",
+        ),
+        (
+            r#"{"principal": "U::\"a\" b", "action": "A::\"x\"", "resource": "U::\"b\""}"#,
+            "more behind the string",
+        ),
+        (
+            r#"{"principal": "if::\"a\"", "action": "A::\"x\"", "resource": "U::\"b\""}"#,
+            "a reserved word",
+        ),
+        (
+            r#"{"principal": "U::\"\\*\"", "action": "A::\"x\"", "resource": "U::\"b\""}"#,
+            "an escape of patterns",
+        ),
+        (
+            r#"{"principal": {"type": "U"}, "action": "A::\"x\"", "resource": "U::\"b\""}"#,
+            "no id",
+        ),
+        (
+            r#"{"principal": 1, "action": "A::\"x\"", "resource": "U::\"b\""}"#,
+            "a number",
+        ),
+    ];
+    for (json, shows) in cases {
+        assert!(rt; is_unsaid(read_question(rt.alloc(), json)), "{shows}");
+    }
+}
+
+/// The texts, a line each.
+fn lines(alloc: Global, texts: &Vec<String>) -> Result<String, AllocError> {
+    let mut all = String::new(alloc);
+    for text in texts {
+        all.push_str(text.as_str())?;
+        all.push('\n')?;
+    }
+    Ok(all)
+}
+
+/// Whether the answer is these texts.
+fn is_split(alloc: Global, answer: Result<Vec<String>, SplitError>, expected: &str) -> bool {
+    match answer {
+        Ok(texts) => match lines(alloc, &texts) {
+            Ok(all) => all.as_str() == expected,
+            Err(_) => false,
+        },
+        Err(_) => false,
+    }
+}
+
+const TWO: &str = r#"[{"uid": {"type": "U", "id": "a"}}, {"uid": {"type": "U", "id": "bc"}}]"#;
+
+const BOTH: &str =
+    "[{\"uid\": U::\"a\",\"parents\": [],\"attrs\": {},\"tags\": {},},{\"uid\": U::\"bc\",\"parents\": [],\"attrs\": {},\"tags\": {},},]\n";
+
+const APART: &str =
+    "[{\"uid\": U::\"a\",\"parents\": [],\"attrs\": {},\"tags\": {},},]\n[{\"uid\": U::\"bc\",\"parents\": [],\"attrs\": {},\"tags\": {},},]\n";
+
+#[test]
+fn entities_are_split(rt: HostRuntime) {
+    let alloc = rt.alloc();
+    assert!(rt; is_split(alloc, entity_texts(alloc, "[]", 0), ""), "none");
+    assert!(rt;
+        is_split(alloc, entity_texts(alloc, TWO, 111), BOTH),
+        "111 bytes: both fit"
+    );
+    assert!(rt;
+        is_split(alloc, entity_texts(alloc, TWO, 110), APART),
+        "110 bytes: each alone"
+    );
+}
+
+/// The index of the entity that is too long; a number beyond any where none is.
+fn long_index(answer: Result<Vec<String>, SplitError>) -> usize {
+    match answer {
+        Err(SplitError::TooLong { index }) => index,
+        _ => 99,
+    }
+}
+
+#[test]
+fn long_entities_are_named(rt: HostRuntime) {
+    let alloc = rt.alloc();
+    assert!(rt;
+        long_index(entity_texts(alloc, TWO, 55)) == 0,
+        "the first doesn't fit"
+    );
+    assert!(rt;
+        long_index(entity_texts(alloc, TWO, 56)) == 1,
+        "the second doesn't fit"
+    );
+    assert!(rt;
+        matches!(entity_texts(alloc, "{}", 100), Err(SplitError::Unsaid)),
+        "no list"
+    );
+}
+
+/// The set of this id.
+fn only(alloc: Global, id: &str) -> Result<PolicyIds, AllocError> {
+    let mut ids = Vec::new(alloc);
+    ids.push(PolicyID::from_string(alloc, id)?)?;
+    Ok(PolicyIds::new(ids))
+}
+
+/// A policy that compares what has no order.
+fn one_erring(alloc: Global, id: &str) -> Result<Erring, AllocError> {
+    let mut entries = Vec::new(alloc);
+    entries.push((PolicyID::from_string(alloc, id)?, ErrorKind::TypeError))?;
+    Erring::new(entries)
+}
+
+/// Whether the JSON of an answer has this decision, and behind it the policy that must hold, out of one that
+/// must and one that may, and the one that errs.
+fn is_told(alloc: Global, decision: Option<Decision>, expected: &str) -> Result<bool, AllocError> {
+    let answer = Answer {
+        decision,
+        must: only(alloc, "policy0")?,
+        may: only(alloc, "policy1")?,
+        erring: one_erring(alloc, "say \"2\"")?,
+    };
+    let text = answer_text(alloc, &answer)?;
+    Ok(match text.as_str().strip_suffix(DIAGNOSTICS) {
+        Some(told) => told == expected,
+        None => false,
+    })
+}
+
+const DIAGNOSTICS: &str = concat!(
+    r#","diagnostics":{"reason":["policy0"],"errors":"#,
+    r#"[{"policyId":"say \"2\"","error":{"message":"TypeError","code":"TypeError"}}]}}"#
+);
+
+#[test]
+fn answers_are_told(rt: HostRuntime) {
+    let cases = [
+        (Some(Decision::Allow), r#"{"decision":"allow""#),
+        (Some(Decision::Deny), r#"{"decision":"deny""#),
+        (None, r#"{"decision":null"#),
+    ];
+    for (decision, expected) in cases {
+        assert!(rt;
+            matches!(is_told(rt.alloc(), decision, expected), Ok(true)),
+            "{expected}"
+        );
     }
 }
