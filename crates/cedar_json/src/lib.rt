@@ -5,7 +5,10 @@ mod answers;
 mod bodies;
 mod entities;
 mod entities_written;
+mod fault_walks;
+mod faults;
 mod object_keys;
+mod places;
 mod questions;
 mod reading;
 mod scalars;
@@ -20,6 +23,7 @@ ghost use Rattle.cedar_json.specs.Rows.{Rows};
 
 pub use answers::answer_text;
 pub use bodies::SplitError;
+pub use faults::{FaultKind, JsonFault, entities_fault, question_fault, value_fault};
 pub use reading::{Unread, entity_texts, read_entities, read_question, read_value};
 
 /// What is written for a value is a text of that value.

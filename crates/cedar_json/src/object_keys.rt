@@ -6,7 +6,8 @@ ghost use Rattle.cedar_json.specs.Entities.{only_under};
 
 use crate::writing::Members;
 
-fn is_one_of(key: &str, names: &[&str]) -> bool
+/// Whether the key is one of these.
+pub fn is_one_of(key: &str, names: &[&str]) -> bool
     ensures { result ≡ is_among key.now (map (λ name. name.now) names.now) }
 {
     for name in names {

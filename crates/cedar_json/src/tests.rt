@@ -1,7 +1,8 @@
 // Texts of JSON and their Cedar texts, and texts that say nothing.
 
 use crate::{
-    SplitError, Unread, answer_text, entity_texts, read_entities, read_question, read_value,
+    JsonFault, SplitError, Unread, answer_text, entities_fault, entity_texts, question_fault,
+    read_entities, read_question, read_value, value_fault,
 };
 use cedar_policy_parts::{Decision, PolicyID};
 use cedar_replies::{Answer, Erring, ErrorKind, PolicyIds};
@@ -301,5 +302,123 @@ fn answers_are_told(rt: HostRuntime) {
             matches!(is_told(rt.alloc(), decision, expected), Ok(true)),
             "{expected}"
         );
+    }
+}
+
+/// A fault on one line: its kind, pointer, line, column and words.
+fn fault_line(
+    alloc: Global,
+    fault: Result<Option<JsonFault>, AllocError>,
+) -> Result<String, AllocError> {
+    match fault? {
+        None => String::from_str(alloc, "none"),
+        Some(fault) => {
+            let kind = fault.kind;
+            let pointer = fault.pointer.as_str();
+            let line = fault.line;
+            let column = fault.column;
+            let message = fault.message.as_str();
+            format!(in alloc; "{kind:?} {pointer} {line}:{column} {message}")
+        }
+    }
+}
+
+#[test]
+fn faults_of_values_are_told(rt: HostRuntime) {
+    let cases = [
+        ("1", "none"),
+        (
+            "\u{feff}1",
+            "Mark  1:1 the text begins with a byte order mark",
+        ),
+        ("[1,\n }", "NotJson  2:2 no JSON here"),
+        (r#"{"a" 1}"#, "NotJson  1:2 no JSON here"),
+        (r#"{"a": "\ud800"}"#, "NotJson  1:7 no JSON here"),
+        ("1 2", "NotJson  1:3 no JSON here"),
+        ("[1", "NotJson  1:3 no JSON here"),
+        (
+            r#"{"a": 1, "b": 2, "a": 3}"#,
+            "TwiceKey /a 1:18 key \"a\" stands twice",
+        ),
+        ("[true,\n null]", "Null /1 2:2 null is no value of Cedar"),
+        (
+            r#"{"a/b": 1.5}"#,
+            "Float /a~1b 1:9 1.5 is no long: numbers are whole",
+        ),
+        ("1e3", "Float  1:1 1e3 is no long: numbers are whole"),
+        (
+            "9223372036854775808",
+            "Range  1:1 9223372036854775808 is no long: out of range",
+        ),
+        (
+            r#"{"é": {"__entity": "x"}}"#,
+            "Uid /é/__entity 1:20 no entity: expected {\"type\", \"id\"}",
+        ),
+        (
+            r#"{"__entity": {"id": "x", "type": "A B"}}"#,
+            "Type /__entity/type 1:34 \"A B\" is no entity type",
+        ),
+        (
+            r#"{"__expr": "1"}"#,
+            "Extn /__expr 1:2 no call: `__expr` was removed in Cedar 3",
+        ),
+        (
+            r#"{"__extn": {"fn": "ip"}}"#,
+            "Extn /__extn 1:12 no call: expected {\"fn\", \"arg\"} or {\"fn\", \"args\"}",
+        ),
+    ];
+    for (json, expected) in cases {
+        let line = fault_line(rt.alloc(), value_fault(rt.alloc(), json)).expect(&rt, "memory");
+        assert!(rt; line.as_str() == expected, "{line}");
+    }
+}
+
+#[test]
+fn faults_of_entities_are_told(rt: HostRuntime) {
+    let cases = [
+        ("[]", "none"),
+        ("{}", "Kind  1:1 the text is no list"),
+        (
+            r#"[{"uid": {"type": "U", "id": "a"}, "atrs": {}}]"#,
+            "Key /0/atrs 1:36 key \"atrs\" is none of uid, parents, attrs, tags",
+        ),
+        (
+            r#"[{"attrs": {}}]"#,
+            "Missing /0 1:2 key \"uid\" is missing",
+        ),
+        (
+            r#"[{"uid": {"type": "U", "id": "a"}, "attrs": []}]"#,
+            "Kind /0/attrs 1:45 what stands there is no object",
+        ),
+        (
+            r#"[{"uid": {"type": "U", "id": "a"}, "parents": ["U::\"b\""]}]"#,
+            "Uid /0/parents/0 1:48 no entity: expected {\"type\", \"id\"}",
+        ),
+    ];
+    for (json, expected) in cases {
+        let line = fault_line(rt.alloc(), entities_fault(rt.alloc(), json)).expect(&rt, "memory");
+        assert!(rt; line.as_str() == expected, "{line}");
+    }
+}
+
+#[test]
+fn faults_of_questions_are_told(rt: HostRuntime) {
+    let cases = [
+        (
+            r#"{"principal": "U::\"a\"", "action": "A::\"x\"", "resource": "U::\"b\""}"#,
+            "none",
+        ),
+        (
+            r#"{"principal": "U::\"a\"", "action": "A::\"x\""}"#,
+            "Missing  1:1 key \"resource\" is missing",
+        ),
+        (
+            r#"{"principal": "U::a", "action": "A::\"x\"", "resource": "U::\"b\""}"#,
+            "Uid /principal 1:15 no entity: expected {\"type\", \"id\"} or a string as U::\"x\"",
+        ),
+    ];
+    for (json, expected) in cases {
+        let line = fault_line(rt.alloc(), question_fault(rt.alloc(), json)).expect(&rt, "memory");
+        assert!(rt; line.as_str() == expected, "{line}");
     }
 }
