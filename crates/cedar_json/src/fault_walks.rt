@@ -100,7 +100,7 @@ fn behind<'v>(found: Option<Found<'v>>, step: Step<'v>) -> MaybeFound<'v> {
 }
 
 /// The first key that stood before.
-fn twice_found<'v>(alloc: Global, members: &'v Members<'v>) -> MaybeFound<'v> {
+fn twice_found<'v>(alloc: Global, members: &'v Members<'_>) -> MaybeFound<'v> {
     let mut seen: BTreeMap<&str, usize> = BTreeMap::new(alloc);
     for number in 0..members.len() {
         let key = members[number].0;
@@ -114,7 +114,7 @@ fn twice_found<'v>(alloc: Global, members: &'v Members<'v>) -> MaybeFound<'v> {
 /// The first key that is none of these.
 fn key_found<'v>(
     alloc: Global,
-    members: &'v Members<'v>,
+    members: &'v Members<'_>,
     names: &[&str],
     expected: &'static str,
 ) -> MaybeFound<'v> {
@@ -141,7 +141,7 @@ fn number_found<'v>(alloc: Global, digits: &'v str) -> MaybeFound<'v> {
 const REFERENCE: &str = "{\"type\", \"id\"}";
 
 /// What is wrong with an entity by its type and its id.
-fn uid_found<'v>(alloc: Global, value: &'v Value<'v>) -> MaybeFound<'v> {
+fn uid_found<'v>(alloc: Global, value: &'v Value<'_>) -> MaybeFound<'v> {
     if is_uid(value) {
         return Ok(None);
     }
@@ -160,7 +160,7 @@ fn uid_found<'v>(alloc: Global, value: &'v Value<'v>) -> MaybeFound<'v> {
 }
 
 /// What is wrong with an entity, which perhaps stands under `__entity`.
-fn entity_found<'v>(alloc: Global, value: &'v Value<'v>) -> MaybeFound<'v> {
+fn entity_found<'v>(alloc: Global, value: &'v Value<'_>) -> MaybeFound<'v> {
     if is_entity(value) {
         return Ok(None);
     }
@@ -176,7 +176,7 @@ fn entity_found<'v>(alloc: Global, value: &'v Value<'v>) -> MaybeFound<'v> {
 
 /// What is wrong with a value.
 #[cycle(found)]
-pub fn value_found<'v>(alloc: Global, value: &'v Value<'v>) -> MaybeFound<'v> {
+pub fn value_found<'v>(alloc: Global, value: &'v Value<'_>) -> MaybeFound<'v> {
     match value {
         Value::Null => here(alloc, FaultKind::Null, "", ""),
         Value::Bool(_) => Ok(None),
@@ -188,7 +188,7 @@ pub fn value_found<'v>(alloc: Global, value: &'v Value<'v>) -> MaybeFound<'v> {
 }
 
 #[cycle(found)]
-fn items_found<'v>(alloc: Global, items: &'v Vec<Value<'v>>) -> MaybeFound<'v> {
+fn items_found<'v>(alloc: Global, items: &'v Vec<Value<'_>>) -> MaybeFound<'v> {
     for number in 0..items.len() {
         let item = &items[number];
         let found = value_found(alloc, item)?;
@@ -200,7 +200,7 @@ fn items_found<'v>(alloc: Global, items: &'v Vec<Value<'v>>) -> MaybeFound<'v> {
 }
 
 #[cycle(found)]
-fn object_found<'v>(alloc: Global, members: &'v Members<'v>) -> MaybeFound<'v> {
+fn object_found<'v>(alloc: Global, members: &'v Members<'_>) -> MaybeFound<'v> {
     if members.len() == 1 {
         let member = &members[0];
         if member.0 == "__entity" {
@@ -217,7 +217,7 @@ fn object_found<'v>(alloc: Global, members: &'v Members<'v>) -> MaybeFound<'v> {
 
 /// What is wrong with the members of a record.
 #[cycle(found)]
-fn entries_found<'v>(alloc: Global, members: &'v Members<'v>) -> MaybeFound<'v> {
+fn entries_found<'v>(alloc: Global, members: &'v Members<'_>) -> MaybeFound<'v> {
     let twice = twice_found(alloc, members)?;
     if twice.is_some() {
         return Ok(twice);
@@ -254,7 +254,7 @@ const CALL: &str = "expected {\"fn\", \"arg\"} or {\"fn\", \"args\"}";
 
 /// What is wrong with a call.
 #[cycle(found)]
-fn call_found<'v>(alloc: Global, value: &'v Value<'v>) -> MaybeFound<'v> {
+fn call_found<'v>(alloc: Global, value: &'v Value<'_>) -> MaybeFound<'v> {
     let Value::Object(members) = value else {
         return here(alloc, FaultKind::Extn, "", CALL);
     };
@@ -279,7 +279,7 @@ fn call_found<'v>(alloc: Global, value: &'v Value<'v>) -> MaybeFound<'v> {
 
 /// What is wrong with a part of a call.
 #[cycle(found)]
-fn call_part_found<'v>(alloc: Global, key: &str, value: &'v Value<'v>) -> MaybeFound<'v> {
+fn call_part_found<'v>(alloc: Global, key: &str, value: &'v Value<'_>) -> MaybeFound<'v> {
     if key == "fn" {
         return match value {
             Value::String(name) => name_found(alloc, name),
@@ -307,7 +307,7 @@ fn name_found<'v>(alloc: Global, name: &'v str) -> MaybeFound<'v> {
 }
 
 /// What is wrong with an object of values.
-fn record_found<'v>(alloc: Global, value: &'v Value<'v>) -> MaybeFound<'v> {
+fn record_found<'v>(alloc: Global, value: &'v Value<'_>) -> MaybeFound<'v> {
     match value {
         Value::Object(members) => entries_found(alloc, members),
         _ => here(alloc, FaultKind::Kind, "what stands there", "object"),
@@ -315,7 +315,7 @@ fn record_found<'v>(alloc: Global, value: &'v Value<'v>) -> MaybeFound<'v> {
 }
 
 /// What is wrong with a list of entities.
-fn parents_found<'v>(alloc: Global, value: &'v Value<'v>) -> MaybeFound<'v> {
+fn parents_found<'v>(alloc: Global, value: &'v Value<'_>) -> MaybeFound<'v> {
     let Value::Array(items) = value else {
         return here(alloc, FaultKind::Kind, "what stands there", "list");
     };
@@ -330,7 +330,7 @@ fn parents_found<'v>(alloc: Global, value: &'v Value<'v>) -> MaybeFound<'v> {
 }
 
 /// What is wrong with a part of an entity.
-fn entity_part_found<'v>(alloc: Global, key: &str, value: &'v Value<'v>) -> MaybeFound<'v> {
+fn entity_part_found<'v>(alloc: Global, key: &str, value: &'v Value<'_>) -> MaybeFound<'v> {
     match key {
         "uid" => entity_found(alloc, value),
         "parents" => parents_found(alloc, value),
@@ -339,7 +339,7 @@ fn entity_part_found<'v>(alloc: Global, key: &str, value: &'v Value<'v>) -> Mayb
 }
 
 /// What is wrong with an entity and its parts.
-fn body_found<'v>(alloc: Global, value: &'v Value<'v>) -> MaybeFound<'v> {
+fn body_found<'v>(alloc: Global, value: &'v Value<'_>) -> MaybeFound<'v> {
     let Value::Object(members) = value else {
         return here(alloc, FaultKind::Kind, "the entity", "object");
     };
@@ -368,7 +368,7 @@ fn body_found<'v>(alloc: Global, value: &'v Value<'v>) -> MaybeFound<'v> {
 /// What is wrong with the keys of an object.
 fn keys_found<'v>(
     alloc: Global,
-    members: &'v Members<'v>,
+    members: &'v Members<'_>,
     names: &[&str],
     expected: &'static str,
 ) -> MaybeFound<'v> {
@@ -380,7 +380,7 @@ fn keys_found<'v>(
 }
 
 /// What is wrong with a list of entities and their parts.
-pub fn entities_found<'v>(alloc: Global, value: &'v Value<'v>) -> MaybeFound<'v> {
+pub fn entities_found<'v>(alloc: Global, value: &'v Value<'_>) -> MaybeFound<'v> {
     let Value::Array(items) = value else {
         return here(alloc, FaultKind::Kind, "the text", "list");
     };
@@ -395,7 +395,7 @@ pub fn entities_found<'v>(alloc: Global, value: &'v Value<'v>) -> MaybeFound<'v>
 }
 
 /// What is wrong with an entity of a question.
-fn asked_found<'v>(alloc: Global, value: &'v Value<'v>) -> MaybeFound<'v> {
+fn asked_found<'v>(alloc: Global, value: &'v Value<'_>) -> MaybeFound<'v> {
     let Value::String(text) = value else {
         return entity_found(alloc, value);
     };
@@ -423,7 +423,7 @@ fn missing_part(members: &Members<'_>) -> Option<&'static str> {
 }
 
 /// What is wrong with a question.
-pub fn question_found<'v>(alloc: Global, value: &'v Value<'v>) -> MaybeFound<'v> {
+pub fn question_found<'v>(alloc: Global, value: &'v Value<'_>) -> MaybeFound<'v> {
     let Value::Object(members) = value else {
         return here(alloc, FaultKind::Kind, "the text", "object");
     };

@@ -77,7 +77,7 @@ fn fault_of(alloc: Global, found: Found<'_>, place: Place) -> Result<JsonFault, 
 /// The first fault of what a text of JSON has.
 fn found_in<'v>(
     alloc: Global,
-    value: &'v Value<'v>,
+    value: &'v Value<'_>,
     sought: Sought,
 ) -> Result<Found<'v>, AllocError> {
     let found = match sought {
@@ -110,10 +110,10 @@ fn syntax_fault(alloc: Global, json: &str) -> Result<JsonFault, AllocError> {
     fault_of(alloc, Found::new(alloc, kind, "", ""), place_at(json, byte))
 }
 
-fn value_told<'v>(
+fn value_told(
     alloc: Global,
     json: &str,
-    value: &'v Value<'v>,
+    value: &Value<'_>,
     sought: Sought,
 ) -> Result<JsonFault, AllocError> {
     let found = found_in(alloc, value, sought)?;
