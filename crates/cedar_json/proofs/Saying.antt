@@ -22,11 +22,11 @@ use Rattle.cedar_json.proofs.QuestionTexts.{question_text}
 use Rattle.cedar_json.proofs.ReadBack.{text_of}
 use Rattle.cedar_json.proofs.Unique.{entities_unique, question_unique, nothing_said}
 
-some_is : {A : Type 0} → (o : Option A) → is_some o ≡ true → (a : A) × (o ≡ Some a)
+pub some_is : {A : Type 0} → (o : Option A) → is_some o ≡ true → (a : A) × (o ≡ Some a)
 some_is (Some a) e = (a, refl)
 some_is None e = absurd (cc e)
 
-none_is : {A : Type 0} → (o : Option A) → is_some o ≡ false → o ≡ None
+pub none_is : {A : Type 0} → (o : Option A) → is_some o ≡ false → o ≡ None
 none_is (Some a) e = absurd (cc e)
 none_is None e = refl
 
