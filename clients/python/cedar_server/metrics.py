@@ -4,7 +4,7 @@ all. A process that is begun anew goes on with the row, so that no count goes ba
 import ctypes
 import mmap
 import os
-from typing import Dict, Iterator, List, Tuple
+from typing import Dict, Iterator, List, Optional, Tuple
 
 CALLS = ("evaluation", "evaluations", "ask", "whole", "edit", "held", "other")
 STATUSES = (200, 400, 401, 403, 404, 405, 408, 409, 413, 415, 422, 428, 500, 503)
@@ -28,8 +28,9 @@ class Metrics:
         # (each number is written whole, by one process alone)
         self._cells = (ctypes.c_double * (rows * _WIDTH)).from_buffer(mmap.mmap(-1, rows * _WIDTH * 8))
 
-    def row(self, index: int) -> "Row":
-        return Row(self._cells, index * _WIDTH)
+    def row(self, index: Optional[int]) -> "Row":
+        """A row of these, or one that nobody else sees."""
+        return Row((ctypes.c_double * _WIDTH)(), 0) if index is None else Row(self._cells, index * _WIDTH)
 
     def leave(self, index: int) -> None:
         """The process of this row has ended."""

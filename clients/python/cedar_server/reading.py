@@ -5,7 +5,7 @@ import json
 from collections import Counter
 from typing import AbstractSet, Callable, Dict, List, Tuple, TypeVar
 
-from cedar_session import CedarError, Entity, Unknown
+from cedar_session import CedarError, Entity, Extension, Unknown
 from cedar_session.values import Value
 
 from .faults import Fault
@@ -13,7 +13,7 @@ from .faults import Fault
 T = TypeVar("T")
 
 _LEAST, _MOST = -(2**63), 2**63 - 1
-_UID = frozenset(("type", "id"))
+_UID, _CALL = frozenset(("type", "id")), frozenset(("fn", "arg"))
 _ENTITY = frozenset(("uid", "attrs", "parents", "tags"))
 _ESCAPES = frozenset(("__entity", "__extn", "__expr", "__unknown"))
 _NONE: AbstractSet[str] = frozenset()
@@ -158,8 +158,18 @@ def _escaped(found: Dict[str, object], at: str, may_wait: bool) -> Value:
     if "__unknown" in found:
         raise Fault(400, "Unknown", "what isn't known stands in no value but a context of /v1/ask", f"{at}/__unknown")
     if "__extn" in found:
-        raise Fault(400, "Extension", "values of extension types (ip, decimal, datetime, duration) aren't read from JSON yet", f"{at}/__extn")
+        return _extension(found["__extn"], f"{at}/__extn")
     raise Fault(400, "Expression", "expressions aren't read from JSON", f"{at}/__expr")
+
+
+def _extension(value: object, at: str) -> Extension:
+    """A value of an extension type, by the function that makes it of a text."""
+    found = fields(value, at, _CALL)
+    function, argument = (text(found[key], f"{at}/{key}") for key in ("fn", "arg"))
+    try:
+        return Extension(function, argument)
+    except CedarError as why:
+        raise Fault(400, "Extension", str(why), f"{at}/fn") from why
 
 
 def entity(value: object, at: str) -> Entity:

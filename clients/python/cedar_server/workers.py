@@ -22,10 +22,11 @@ from .faults import Fault
 from .metrics import Metrics
 from .page import Page
 from .points import CopyPoint, FolderPoint, Point
+from .supervisor import Supervisor, begin_alone
 from .tokens import Doors
 
 _LOGGER = logging.getLogger("gunicorn.error")
-# A reload begins as many processes again before it ends the old ones, and some may be slow to end.
+# A reload begins as many processes again before it ends the old ones, and some may be slow to end. (Beyond that they count for themselves.)
 _ROWS = 4
 # So long a connection without a request is kept where the process ends.
 _GRACE = 1.0
@@ -133,6 +134,9 @@ class Processes(BaseApplication):  # type: ignore[misc]
         self._free = set(range(self._metrics.rows))
         super().__init__()
 
+    def run(self) -> None:
+        Supervisor(self).run()
+
     def load_config(self) -> None:
         settings, cfg = self._settings, self.cfg
         told = {"bind": settings.address, "workers": settings.processes, "worker_class": f"{__name__}.Worker", "timeout": settings.silence}
@@ -158,16 +162,18 @@ class Processes(BaseApplication):  # type: ignore[misc]
         return CopyPoint(settings.database, settings.log, settings.wait, self._worker.notify)
 
     def _before(self, _: Any, worker: Any) -> None:
-        worker.row = min(self._free)
-        self._free.remove(worker.row)
+        worker.row = min(self._free, default=None)
+        self._free.discard(worker.row)
 
     def _after(self, _: Any, worker: Any) -> None:
         self._worker = worker
+        begin_alone()
         _end_with_supervisor(worker.ppid)
 
     def _ended(self, _: Any, worker: Any) -> None:
-        self._metrics.leave(worker.row)
-        self._free.add(worker.row)
+        if worker.row is not None:
+            self._metrics.leave(worker.row)
+            self._free.add(worker.row)
 
     def _again(self, _: Any) -> None:
         if self._settings.folder is None:

@@ -9,6 +9,7 @@ from .errors import BadValue, NoValue
 _LEAST, _MOST = -(2**63), 2**63 - 1
 _PATH = re.compile(r"[A-Za-z_][A-Za-z0-9_]*(?:::[A-Za-z_][A-Za-z0-9_]*)*")
 _RESERVED = frozenset(("true", "false", "if", "then", "else", "in", "like", "has", "is", "__cedar"))
+_MAKERS = frozenset(("decimal", "ip", "datetime", "duration"))
 _ESCAPES = str.maketrans({'"': '\\"', "\\": "\\\\", "\n": "\\n", "\r": "\\r", "\t": "\\t", "\0": "\\0"})
 
 
@@ -29,6 +30,21 @@ class Entity:
 
 
 @dataclass(frozen=True)
+class Extension:
+    """A value of one of Cedar's extension types, by the function that makes it (`decimal`, `ip`, `datetime` or `duration`) of a text. A session
+    refuses it where the text is none of the type."""
+
+    function: str
+    text: str
+
+    def __post_init__(self) -> None:
+        if not isinstance(self.function, str):
+            raise NoValue(f"a {type(self.function).__name__} is no name of a function")
+        if self.function not in _MAKERS:
+            raise BadValue(f"no function that makes a value of a text is named {self.function!r}")
+
+
+@dataclass(frozen=True)
 class Unknown:
     """A value of a question's context that isn't known yet, with the name by which it is told."""
 
@@ -46,7 +62,7 @@ class UnknownPart:
 UNKNOWN = UnknownPart()
 
 # A list and a set are both the language's set; a record's keys are texts.
-Value = Union[bool, int, str, Entity, Unknown, List[Any], AbstractSet[Any], Dict[str, Any]]
+Value = Union[bool, int, str, Entity, Extension, Unknown, List[Any], AbstractSet[Any], Dict[str, Any]]
 Part = Union[Entity, UnknownPart]
 Context = Union[Mapping[str, Value], UnknownPart]
 
@@ -136,6 +152,8 @@ def _text(value: object, may_wait: bool) -> str:
         return quoted(value)
     if isinstance(value, Entity):
         return name_of(value)
+    if isinstance(value, Extension):
+        return f"{value.function}({quoted(value.text)})"
     if isinstance(value, Unknown) and may_wait:
         return f"unknown({quoted(value.name)})"
     if isinstance(value, (list, set, frozenset)):

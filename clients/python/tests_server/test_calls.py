@@ -28,7 +28,8 @@ FAULTS = (
     ("POST", "/v1/ask", "[]", {}, 400, "WrongType", ""),
     ("POST", "/v1/ask", "[" * 50_000, {}, 400, "TooDeep", ""),
     ("POST", "/v1/ask", question(hour=0.5), {}, 400, "Float", "/context/hour"),
-    ("POST", "/v1/ask", question(x={"__extn": {"fn": "ip", "arg": "1.1.1.1"}}), {}, 400, "Extension", "/context/x/__extn"),
+    ("POST", "/v1/ask", question(x={"__extn": {"fn": "ipv4", "arg": "1.1.1.1"}}), {}, 400, "Extension", "/context/x/__extn/fn"),
+    ("POST", "/v1/ask", question(x={"__extn": {"fn": "ip", "arg": "1.1.1.256"}}), {}, 422, "Refused", ""),
     ("POST", "/v1/ask", question(**{"x": json.loads("[" * 200 + "]" * 200), "y": json.loads("[" * 260 + "]" * 260)}), {}, 422, "Refused", ""),
     ("POST", "/v1/ask?position=x", question(), {}, 400, "NoPosition", "?position"),
     ("POST", "/v1/ask?position=-1", question(), {}, 400, "NoPosition", "?position"),
@@ -338,6 +339,34 @@ class Processes(unittest.TestCase):
         self.service.wait()
         self.assertEqual(self.decision(), "deny")
 
+    def test_many_hang_ups(self):
+        for _ in range(40):
+            self.service.signal(signal.SIGHUP)
+            time.sleep(0.05)
+        self.becomes("deny")
+
+    def test_those_that_end_while_they_begin(self):
+        """Each is missed, and another begins in its place."""
+        until = time.monotonic() + 3
+        while time.monotonic() < until:
+            for pid in self.service.workers():
+                os.kill(pid, signal.SIGKILL)
+        until = time.monotonic() + 30
+        while len(self.service.workers()) < 2 and time.monotonic() < until:
+            time.sleep(0.05)
+        self.assertEqual(len(self.service.workers()), 2)
+        self.becomes("deny")
+
+    def test_the_end_of_one_that_begins(self):
+        """It is told to end as soon as it is there."""
+        before = set(self.service.workers())
+        for pid in before:
+            os.kill(pid, signal.SIGKILL)
+        while not set(self.service.workers()) - before:
+            pass
+        self.service.signal(signal.SIGTERM)
+        self.assertEqual(self.service.process.wait(20), 0)
+
     def test_all_end_where_the_supervisor_is_killed(self):
         until = time.monotonic() + 30
         while len(self.service.workers()) < 2 and time.monotonic() < until:
@@ -359,8 +388,11 @@ class Processes(unittest.TestCase):
         # (what can't be read isn't taken, and the service says so)
         self.service.write("more.cedar", "permit(")
         self.service.signal(signal.SIGHUP)
-        self.becomes("allow")
+        until = time.monotonic() + 30
+        while "more.cedar: Refused Text" not in self.service.log() and time.monotonic() < until:
+            time.sleep(0.05)
         self.assertIn("more.cedar: Refused Text", self.service.log())
+        self.becomes("allow")
 
     def test_none_is_dropped_where_the_folder_is_read_again(self):
         ended, failed = threading.Event(), []
