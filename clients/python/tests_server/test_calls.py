@@ -1,6 +1,7 @@
 """Tests of the service over a folder: what each call answers, what is refused and how, who is let in, and what slow and broken clients bring
 about."""
 
+import contextlib
 import json
 import os
 import signal
@@ -350,7 +351,8 @@ class Processes(unittest.TestCase):
         until = time.monotonic() + 3
         while time.monotonic() < until:
             for pid in self.service.workers():
-                os.kill(pid, signal.SIGKILL)
+                with contextlib.suppress(ProcessLookupError):
+                    os.kill(pid, signal.SIGKILL)
         until = time.monotonic() + 30
         while len(self.service.workers()) < 2 and time.monotonic() < until:
             time.sleep(0.05)
