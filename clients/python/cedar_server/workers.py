@@ -22,7 +22,7 @@ from .faults import Fault
 from .metrics import Metrics
 from .page import Page
 from .points import CopyPoint, FolderPoint, Point
-from .supervisor import Supervisor, begin_alone
+from .supervisor import Beat, Supervisor, begin_alone
 from .tokens import Doors
 
 _LOGGER = logging.getLogger("gunicorn.error")
@@ -122,6 +122,15 @@ class Worker(UvicornWorker):  # type: ignore[misc]
     """A process of the service."""
 
     CONFIG_KWARGS = {"loop": "auto", "http": Protocol, "ws": "none", "lifespan": "on", "proxy_headers": False, "server_header": False}
+
+    tmp: Any
+
+    def __init__(self, *given: Any, **more: Any):
+        super().__init__(*given, **more)
+        self.tmp.close()
+        self.tmp = Beat(self.cfg)
+        # (as often as uvicorn looks, which is once a second)
+        self.config.timeout_notify = 0
 
 
 class Processes(BaseApplication):  # type: ignore[misc]

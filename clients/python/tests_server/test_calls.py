@@ -227,10 +227,10 @@ class FullLog(OverFolder):
 class Clients(OverFolder):
     """Slow clients, and those that go."""
 
-    more = ("--seconds", "2")
+    more = ("--seconds", "4")
 
-    def raw(self):
-        connection = socket.create_connection(("127.0.0.1", self.service.port), 20)
+    def raw(self, seconds=20):
+        connection = socket.create_connection(("127.0.0.1", self.service.port), seconds)
         self.addCleanup(connection.close)
         return connection
 
@@ -263,10 +263,10 @@ class Clients(OverFolder):
 
     def test_a_head_that_does_not_come(self):
         for begun in (b"", b"POST /v1/ask HT", b"POST /v1/ask HTTP/1.1\r\nHost: x\r\n"):
-            connection, since = self.raw(), time.monotonic()
+            connection, since = self.raw(60), time.monotonic()
             connection.sendall(begun)
             self.assertEqual(connection.recv(1000), b"")
-            self.assertLess(time.monotonic() - since, 15)
+            self.assertLess(time.monotonic() - since, 25)
 
     def test_a_head_byte_by_byte(self):
         connection, since = self.raw(), time.monotonic()
@@ -274,7 +274,7 @@ class Clients(OverFolder):
             for byte in self.request(b"{}") * 10:
                 connection.sendall(bytes([byte]))
                 time.sleep(0.1)
-                if time.monotonic() - since > 15:
+                if time.monotonic() - since > 25:
                     return
         self.assertEqual(self.caller().ask(hour=9).status, 200)
 
@@ -313,7 +313,7 @@ class Processes(unittest.TestCase):
     def setUp(self):
         self.service = Service()
         self.addCleanup(self.service.remove)
-        self.service.words += ["--processes", "2"]
+        self.service.words += ["--processes", "2", "--silence", "10"]
         self.service.start()
 
     def decision(self, **context):
@@ -344,6 +344,17 @@ class Processes(unittest.TestCase):
         for _ in range(40):
             self.service.signal(signal.SIGHUP)
             time.sleep(0.05)
+        self.becomes("deny")
+
+    def test_one_that_falls_silent(self):
+        silent, *_ = self.service.workers()
+        os.kill(silent, signal.SIGSTOP)
+        until = time.monotonic() + 60
+        while silent in self.service.workers() and time.monotonic() < until:
+            time.sleep(0.1)
+        self.assertNotIn(silent, self.service.workers())
+        self.assertIn(f"WORKER TIMEOUT (pid:{silent})", self.service.log())
+        self.assertEqual(self.service.log().count("WORKER TIMEOUT"), 1)
         self.becomes("deny")
 
     def test_those_that_end_while_they_begin(self):

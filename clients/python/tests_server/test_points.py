@@ -1,12 +1,17 @@
 """Tests of what answers in a process, without one."""
 
+import time
 import unittest
+from unittest import mock
+
+from gunicorn.config import Config
 
 from cedar_session import Decision, Entity, Refused
 
 from cedar_server.points import FolderPoint
 from cedar_server.questions import Question
 from cedar_server.remembered import Remembered
+from cedar_server.supervisor import Beat
 
 
 class Folders(unittest.TestCase):
@@ -46,6 +51,19 @@ class Remembers(unittest.TestCase):
             remembered.of("ask", body, 0, lambda it: asked.append(it) or ("deny", "", ""))
         self.assertEqual(len(asked), 10_003)
         self.assertLess(len(remembered._given), 5_000)
+
+
+class Beats(unittest.TestCase):
+    def test_a_clock_that_is_set_makes_none_silent(self):
+        beat = Beat(Config())
+        self.addCleanup(beat.close)
+        for told, wanted in ((0, 30), (30, 0)):
+            clock = time.monotonic() + 30
+            with mock.patch("time.monotonic", lambda: clock - 30 + told):
+                beat.notify()
+            for day in (0.0, 2e9, -1e6):
+                with mock.patch("time.monotonic", lambda: clock), mock.patch("time.time", lambda: day):
+                    self.assertAlmostEqual(time.time() - beat.last_update(), wanted, 3)
 
 
 if __name__ == "__main__":
