@@ -62,24 +62,33 @@ def end_all():
             return
 
 
+def status_of(pid):
+    """That of a child, once it has ended. Others are waited for meanwhile, so that who looks for them sees that they have ended."""
+    while True:
+        ended, status = os.wait()
+        if ended == pid:
+            code = os.waitstatus_to_exitcode(status)
+            return code if code >= 0 else 128 - code
+
+
 def ends(which, _):
-    sys.exit(128 + which)
+    if which == signal.SIGALRM:
+        print(f"it took more than {sys.argv[1]} seconds", file=sys.stderr)
+    sys.exit(LATE if which == signal.SIGALRM else 128 + which)
 
 
 def main():
     if len(sys.argv) < 3:
         sys.exit(__doc__)
     ctypes.CDLL(None).prctl(SUBREAPER, 1)
-    for it in (signal.SIGTERM, signal.SIGINT, signal.SIGHUP):
+    told = (signal.SIGTERM, signal.SIGINT, signal.SIGHUP, signal.SIGALRM)
+    for it in told:
         signal.signal(it, ends)
     try:
-        status = subprocess.Popen(sys.argv[2:]).wait(float(sys.argv[1]))
-        return status if status >= 0 else 128 - status
-    except subprocess.TimeoutExpired:
-        print(f"it took more than {sys.argv[1]} seconds", file=sys.stderr)
-        return LATE
+        signal.setitimer(signal.ITIMER_REAL, float(sys.argv[1]))
+        return status_of(subprocess.Popen(sys.argv[2:]).pid)
     finally:
-        for it in (signal.SIGTERM, signal.SIGINT, signal.SIGHUP):
+        for it in told:
             signal.signal(it, signal.SIG_IGN)
         end_all()
 

@@ -72,7 +72,7 @@ failed=0
 for at in "${!running[@]}"; do
     if wait "${running[$at]}"; then
         echo "fine: ${parts[$at]}"
-        grep -E 'questions at|skipped' "$room/$at"
+        grep -E 'questions at|^left out' "$room/$at"
     else
         failed=$((failed + 1))
         echo "FAILED: ${parts[$at]}"

@@ -50,9 +50,7 @@ class Server:
         self.data = os.path.join(self.room, "data")
         self.port = free_port()
         self._run("initdb", "-D", self.data, "-U", "postgres", "-A", "trust", "--no-sync", "-E", "UTF8", "--locale=C")
-        settings = ("listen_addresses = '127.0.0.1'", f"port = {self.port}", "unix_socket_directories = ''", "max_connections = 40")
-        # (nothing of it outlives the machine)
-        settings += ("shared_buffers = 32MB", "fsync = off")
+        settings = ("listen_addresses = '127.0.0.1'", f"port = {self.port}", "unix_socket_directories = ''", "max_connections = 40", "shared_buffers = 32MB")
         with open(os.path.join(self.data, "postgresql.auto.conf"), "a", encoding="utf-8") as it:
             it.write("\n".join(settings) + "\n")
         self.start()
