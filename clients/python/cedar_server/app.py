@@ -7,16 +7,18 @@ from contextlib import asynccontextmanager
 from dataclasses import dataclass
 from time import monotonic, perf_counter
 from types import MappingProxyType
-from typing import AsyncIterator, Awaitable, Callable, Dict, FrozenSet, List, Mapping, Optional, Tuple
+from typing import AsyncIterator, Awaitable, Callable, FrozenSet, List, Mapping, Optional, Tuple
 
-from cedar_session import Answer, CedarError, Decision, Refused, values
+from cedar_session import CedarError, Refused, values
+from cedar_session.commands import Line
 from starlette.applications import Starlette
 from starlette.exceptions import HTTPException
 from starlette.requests import ClientDisconnect, Request
 from starlette.responses import Response
 from starlette.routing import Route
+from starlette.types import ASGIApp, Receive, Scope, Send
 
-from . import reading
+from . import answers, quick, reading
 from .decisions import Decisions, told_of
 from .faults import Fault, fault_of
 from .metrics import Metrics, Row
@@ -57,6 +59,29 @@ class More:
     page: Optional[Page] = None
 
 
+class Said(Response):
+    """JSON that is answered."""
+
+    def __init__(self, text: str) -> None:
+        self.status_code, self.background, self.body = 200, None, text.encode()
+        self.raw_headers = [(b"content-length", b"%d" % len(self.body)), (b"content-type", b"application/json")]
+
+
+class Front:
+    """The calls that ask one question, straight from the server, and behind them all others, by their paths and methods."""
+
+    def __init__(self, others: Starlette, asks: Mapping[str, Endpoint]):
+        self._others, self._asks = others, asks
+
+    async def __call__(self, scope: Scope, receive: Receive, send: Send) -> None:
+        ask = self._asks.get(scope["path"]) if scope["type"] == "http" and scope["method"] == "POST" else None
+        if ask is None:
+            await self._others(scope, receive, send)
+        else:
+            response = await ask(Request(scope, receive, send))
+            await response(scope, receive, send)
+
+
 class Service:
     """The calls, over what answers in this process."""
 
@@ -65,18 +90,24 @@ class Service:
         self._metrics, self._row, self._decisions, self._page = metrics, row, more.decisions, more.page
         self._remembered = Remembered()
 
-    def app(self) -> Starlette:
+    def app(self) -> ASGIApp:
+        return Front(self._others(), {path: self._call(call, do) for path, call, do in self._asks()})
+
+    def _others(self) -> Starlette:
         handlers = {HTTPException: self._no_path}
         app = Starlette(routes=self._routes(), exception_handlers=handlers, lifespan=self._lives)  # type: ignore[arg-type]
         # (another path is another path)
         app.router.redirect_slashes = False
         return app
 
+    def _asks(self) -> List[Tuple[str, str, Endpoint]]:
+        """The calls that ask one question."""
+        return [("/access/v1/evaluation", "evaluation", self._evaluation), ("/v1/ask", "ask", self._ask)]
+
     def _routes(self) -> List[Route]:
         questions = [
-            ("/access/v1/evaluation", "evaluation", self._evaluation),
+            *self._asks(),
             ("/access/v1/evaluations", "evaluations", self._evaluations),
-            ("/v1/ask", "ask", self._ask),
             ("/v1/is_authorized", "whole", self._whole),
         ]
         edits = [
@@ -159,17 +190,24 @@ class Service:
         query = query_of(request, _QUESTION)
         position, age = position_of(query, "position"), age_of(query)
         body = await body_of(request, self._limits.body)
-        await self._point.come(position or 0, self._limits.age if age is None else age)
+        if query or self._limits.age is not None:
+            await self._point.come(position or 0, self._limits.age if age is None else age)
         return body
 
     def _answered(self, request: Request, call: str, body: bytes, ask: Callable[[bytes], Given]) -> Response:
         """What one question is answered, from what is remembered where this process answers questions at all."""
         decision, said, line = ask(body) if self._point.why_not() else self._remembered.of(call, body, self._point.position, ask)
         self._tell(request, decision, line)
-        return Response(said, media_type="application/json")
+        return Said(said)
 
-    def _line(self, question: Question, answer: Answer) -> str:
-        return "" if self._decisions is None else told_of(question, answer)
+    def _put(self, body: bytes, quickly: Callable[[bytes], Optional[str]], read: Callable[[object], Question]) -> Tuple[Line, str]:
+        """Puts a question to the session: what that says, and what the log of decisions says of it."""
+        text = quickly(body) if self._decisions is None else None
+        return self._put_read(read(reading.read(body))) if text is None else (self._point.asked(text), "")
+
+    def _put_read(self, question: Question) -> Tuple[Line, str]:
+        line = self._point.asked(question.text())
+        return line, "" if self._decisions is None else told_of(question, line)
 
     def _tell(self, request: Request, decision: str, line: str) -> None:
         if self._decisions is not None:
@@ -180,30 +218,26 @@ class Service:
         return self._answered(request, "ask", await self._asked(request), self._of_ask)
 
     def _of_ask(self, body: bytes) -> Given:
-        question = question_of(reading.read(body))
-        answer, position = self._point.ask(question), self._point.position
-        decision: str = answer.decision.value
-        shown = {"decision": decision, "must": answer.must, "may": answer.may, "erring": answer.erring, "position": position}
-        return decision, _ENCODER.encode(shown), self._line(question, answer)
+        line, told = self._put(body, quick.asked, question_of)
+        return line[0], answers.asked(line, self._point.position), told
 
     async def _evaluation(self, request: Request) -> Response:
         return self._answered(request, "evaluation", await self._asked(request), self._of_evaluation)
 
     def _of_evaluation(self, body: bytes) -> Given:
-        question = evaluation_of(reading.read(body))
-        answer = self._point.ask(question)
-        return answer.decision.value, _ENCODER.encode(_evaluated(answer, self._point.position)), self._line(question, answer)
+        line, told = self._put(body, quick.evaluation, evaluation_of)
+        return line[0], answers.evaluated(line, self._point.position), told
 
     async def _evaluations(self, request: Request) -> Response:
         asked = evaluations_of(reading.read(await self._asked(request)))
         found = []
         for question in asked.questions:
-            answer = self._point.ask(question)
-            found.append(_evaluated(answer, self._point.position))
-            self._tell(request, answer.decision.value, self._line(question, answer))
-            if found[-1]["decision"] is asked.last:
+            line, told = self._put_read(question)
+            found.append(answers.evaluated(line, self._point.position))
+            self._tell(request, line[0], told)
+            if (line[0] == "allow") is asked.last:
                 break
-        return _json(found[0] if asked.is_one else {"evaluations": found})
+        return Said(found[0] if asked.is_one else f'{{"evaluations":[{",".join(found)}]}}')
 
     async def _whole(self, request: Request) -> Response:
         self._doors.let_ask(header(request, _TOKEN))
@@ -283,11 +317,6 @@ class Service:
 
     async def _counts(self, _: Request) -> Response:
         return Response(self._metrics.text(monotonic()), media_type="text/plain; version=0.0.4")
-
-
-def _evaluated(answer: Answer, position: int) -> Dict[str, object]:
-    """An answer as AuthZEN has it."""
-    return {"decision": answer.decision is Decision.ALLOW, "context": {"reasons": answer.must, "erring": answer.erring, "position": position}}
 
 
 def _json(said: object, status: int = 200) -> Response:

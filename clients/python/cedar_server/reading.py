@@ -3,7 +3,7 @@ twice, a number with a fraction or beyond 64 bits, null, half a character."""
 
 import json
 from collections import Counter
-from typing import AbstractSet, Callable, Dict, List, Tuple, TypeVar
+from typing import AbstractSet, Any, Callable, Dict, List, Tuple, TypeVar
 
 from cedar_session import CedarError, Entity, Extension, Unknown
 from cedar_session.values import Value
@@ -15,7 +15,7 @@ T = TypeVar("T")
 _LEAST, _MOST = -(2**63), 2**63 - 1
 _UID, _CALL = frozenset(("type", "id")), frozenset(("fn", "arg"))
 _ENTITY = frozenset(("uid", "attrs", "parents", "tags"))
-_ESCAPES = frozenset(("__entity", "__extn", "__expr", "__unknown"))
+ESCAPES = frozenset(("__entity", "__extn", "__expr", "__unknown"))
 _NONE: AbstractSet[str] = frozenset()
 _NAMES = {dict: "an object", list: "a list", str: "a string", bool: "a truth value", int: "a number", type(None): "null"}
 
@@ -58,6 +58,16 @@ def read(body: bytes) -> object:
         raise Fault(400, "NoJson", f"{why.msg} at line {why.lineno} column {why.colno}", line=why.lineno, column=why.colno) from why
     except RecursionError:
         raise _too_deep() from None
+
+
+def scanned(body: bytes) -> Any:
+    """The same, but None where it is no JSON, and where something stands before it or behind."""
+    try:
+        text = body.decode()
+        found, end = _DECODER.raw_decode(text)
+    except (ValueError, RecursionError):
+        return None
+    return found if end == len(text) else None
 
 
 def _too_deep() -> Fault:
@@ -134,7 +144,7 @@ def value_of(value: object, at: str, may_wait: bool = False) -> Value:
         if isinstance(value, (bool, int)):
             return value
         if isinstance(value, dict):
-            return record_of(value, at, may_wait) if _ESCAPES.isdisjoint(value) else _escaped(value, at, may_wait)
+            return record_of(value, at, may_wait) if ESCAPES.isdisjoint(value) else _escaped(value, at, may_wait)
         if isinstance(value, list):
             return [value_of(it, f"{at}/{index}", may_wait) for index, it in enumerate(value)]
     except RecursionError:
@@ -149,7 +159,7 @@ def record_of(value: object, at: str, may_wait: bool = False) -> Dict[str, Value
 
 def _escaped(found: Dict[str, object], at: str, may_wait: bool) -> Value:
     if len(found) > 1:
-        key = sorted(_ESCAPES & found.keys())[0]
+        key = sorted(ESCAPES & found.keys())[0]
         raise Fault(400, "Escape", f"the key {key} stands alone in its object", below(at, key))
     if "__entity" in found:
         return uid(found, at)

@@ -5,7 +5,7 @@ import re
 import threading
 from dataclasses import dataclass
 from types import MappingProxyType
-from typing import Callable, Dict, Iterable, List, Match, NoReturn, Optional, Tuple, TypeVar
+from typing import Callable, Dict, Iterable, List, Match, NoReturn, Optional, Tuple, TypeVar, cast
 
 from . import values
 from .errors import BadValue, Busy, Ended, NoCommand, NotCopied, NoValue, Refused, TooLong
@@ -45,6 +45,9 @@ class Decision(enum.Enum):
 
 _DECISIONS = {it.value: it for it in Decision}
 
+# What a line says to a question: the decision, and as they are written the lists of what must be a reason, of what may be, and of what errs.
+Line = Tuple[str, str, str, str]
+
 
 @dataclass
 class Answer:
@@ -68,11 +71,20 @@ def ids_of(listed: str) -> Tuple[str, ...]:
     return tuple(map(_unquoted, _ID.findall(listed)))
 
 
-def _answer(parts: "Match[str]") -> Answer:
-    reasons = ids_of(parts["must"])
-    may = reasons if parts["may"] == parts["must"] else ids_of(parts["may"])
-    erring = {_unquoted(name): kind for name, kind in _ERROR.findall(parts["erring"])} if parts["erring"] != "[]" else {}
-    return Answer(_DECISIONS[parts["decision"]], reasons, may, erring)
+def errors_of(listed: str) -> Dict[str, str]:
+    """The ids that a list of errors in a line names, each with its kind."""
+    return {_unquoted(name): kind for name, kind in _ERROR.findall(listed)} if listed != "[]" else {}
+
+
+def answer_of(line: Line) -> Answer:
+    """The answer that a line has."""
+    decision, must, may, erring = line
+    reasons = ids_of(must)
+    return Answer(_DECISIONS[decision], reasons, reasons if may == must else ids_of(may), errors_of(erring))
+
+
+def _line_of(parts: "Match[str]") -> Line:
+    return cast(Line, parts.group("decision", "must", "may", "erring"))
 
 
 def encoded(body: str) -> bytes:
@@ -181,11 +193,15 @@ class Commands:
 
     def ask(self, *, principal: Part, action: Part, resource: Part, context: Context = EMPTY) -> Answer:
         """Asks a question. What isn't known is UNKNOWN, and has to be said; without a context there is an empty one."""
-        return _answer(self._done("ask", values.question_of(principal, action, resource, context)))
+        return answer_of(self.asked(values.question_of(principal, action, resource, context)))
+
+    def asked(self, question: str) -> Line:
+        """Asks a question by its text, which nobody else wrote a part of."""
+        return _line_of(self._done("ask", question))
 
     def tell(self, /, **known: Value) -> Answer:
         """Tells values by the names of the open question's unknowns, which may be `principal`, `action`, `resource` and `context`."""
-        return _answer(self._done("tell", values.told(known)))
+        return answer_of(_line_of(self._done("tell", values.told(known))))
 
     def close(self) -> None:
         """Closes the session; a closed one stays closed."""

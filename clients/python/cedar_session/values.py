@@ -26,7 +26,7 @@ class Entity:
     _name: str = field(default="", init=False, repr=False, compare=False)
 
     def __post_init__(self) -> None:
-        object.__setattr__(self, "_name", f"{_path(self.type)}::{quoted(self.id)}")
+        object.__setattr__(self, "_name", f"{path(self.type)}::{quoted(self.id)}")
 
 
 @dataclass(frozen=True)
@@ -119,7 +119,7 @@ def _part(slot: str, part: Part) -> str:
         return ""
     if slot == "action":
         raise BadValue("the type of an action can't be stated")
-    return f"{slot}_type:{quoted(_path(part.type))}"
+    return f"{slot}_type:{quoted(path(part.type))}"
 
 
 def _entity(entity: Entity) -> str:
@@ -167,7 +167,8 @@ def _record(record: Mapping[Any, Any], may_wait: bool) -> str:
     return "{%s}" % ",".join([f"{quoted(key)}:{_text(it, may_wait)}" for key, it in record.items()])
 
 
-def _path(name: str) -> str:
+def path(name: str) -> str:
+    """The name of a type of entities, where it is one."""
     if not isinstance(name, str):
         raise NoValue(f"a {type(name).__name__} is no type of entities")
     if not _PATH.fullmatch(name) or not _RESERVED.isdisjoint(name.split("::")):

@@ -6,7 +6,7 @@ from unittest import mock
 
 from gunicorn.config import Config
 
-from cedar_session import Decision, Entity, Refused
+from cedar_session import Entity, Refused
 
 from cedar_server.points import FolderPoint
 from cedar_server.questions import Question
@@ -23,7 +23,7 @@ class Folders(unittest.TestCase):
         self.addCleanup(point.close)
         self.assertEqual(len(beats), 2)
         asked = Question(Entity("User", "a"), Entity("Action", "v"), Entity("R", "r"), {})
-        self.assertEqual((point.ask(asked).decision, len(beats)), (Decision.ALLOW, 2))
+        self.assertEqual((point.asked(asked.text()), len(beats)), (("allow", '["policy0"]', '["policy0"]', "[]"), 2))
 
     def test_no_process_serves_what_lacks_an_edit(self):
         with self.assertRaises(Refused):
