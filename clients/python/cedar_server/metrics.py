@@ -4,6 +4,7 @@ all. A process that is begun anew goes on with the row, so that no count goes ba
 import ctypes
 import mmap
 import os
+from bisect import bisect_left
 from typing import Dict, Iterator, List, Optional, Tuple
 
 CALLS = ("evaluation", "evaluations", "ask", "whole", "edit", "held", "other")
@@ -18,6 +19,8 @@ _REQUESTS = [(call, status) for call in CALLS for status in STATUSES]
 _NAMES: List[object] = [*_GAUGES, *_REQUESTS, *DECISIONS, *(("le", it) for it in (*BOUNDS, "+Inf")), "seconds"]
 _AT: Dict[object, int] = {name: index for index, name in enumerate(_NAMES)}
 _WIDTH = len(_NAMES)
+# (the bounds stand in their order)
+_FIRST_BOUND, _SECONDS = _AT["le", BOUNDS[0]], _AT["seconds"]
 
 
 class Metrics:
@@ -101,7 +104,7 @@ class Row:
 
     def requested(self, call: str, status: int, seconds: float) -> None:
         """Counts a request that was answered."""
-        bound: object = next((it for it in BOUNDS if seconds <= it), "+Inf")
-        self._cells[self._at + _AT[call, status]] += 1
-        self._cells[self._at + _AT["le", bound]] += 1
-        self._cells[self._at + _AT["seconds"]] += seconds
+        cells, at = self._cells, self._at
+        cells[at + _AT[call, status]] += 1
+        cells[at + _FIRST_BOUND + bisect_left(BOUNDS, seconds)] += 1
+        cells[at + _SECONDS] += seconds

@@ -3,7 +3,7 @@ twice, a number with a fraction or beyond 64 bits, null, half a character."""
 
 import json
 from collections import Counter
-from typing import AbstractSet, Any, Callable, Dict, List, Tuple, TypeVar
+from typing import AbstractSet, Callable, Dict, List, Tuple, TypeVar
 
 from cedar_session import CedarError, Entity, Extension, Unknown
 from cedar_session.values import Value
@@ -12,7 +12,7 @@ from .faults import Fault
 
 T = TypeVar("T")
 
-_LEAST, _MOST = -(2**63), 2**63 - 1
+LEAST, MOST = -(2**63), 2**63 - 1
 _UID, _CALL = frozenset(("type", "id")), frozenset(("fn", "arg"))
 _ENTITY = frozenset(("uid", "attrs", "parents", "tags"))
 ESCAPES = frozenset(("__entity", "__extn", "__expr", "__unknown"))
@@ -41,8 +41,8 @@ def _fraction(text: str) -> object:
 
 def _whole(text: str) -> object:
     # (20 characters have room for any number of 64 bits, with its sign)
-    number = int(text) if len(text) <= 20 else _MOST + 1
-    return number if _LEAST <= number <= _MOST else _Wrong("BeyondLong", f"{text[:40]} has more than 64 bits")
+    number = int(text) if len(text) <= 20 else MOST + 1
+    return number if LEAST <= number <= MOST else _Wrong("BeyondLong", f"{text[:40]} has more than 64 bits")
 
 
 _DECODER = json.JSONDecoder(object_pairs_hook=_object, parse_float=_fraction, parse_constant=_fraction, parse_int=_whole)
@@ -58,16 +58,6 @@ def read(body: bytes) -> object:
         raise Fault(400, "NoJson", f"{why.msg} at line {why.lineno} column {why.colno}", line=why.lineno, column=why.colno) from why
     except RecursionError:
         raise _too_deep() from None
-
-
-def scanned(body: bytes) -> Any:
-    """The same, but None where it is no JSON, and where something stands before it or behind."""
-    try:
-        text = body.decode()
-        found, end = _DECODER.raw_decode(text)
-    except (ValueError, RecursionError):
-        return None
-    return found if end == len(text) else None
 
 
 def _too_deep() -> Fault:

@@ -32,6 +32,9 @@ _ID = re.compile(_QUOTED)
 _ERROR = re.compile(rf"({_QUOTED}):([A-Za-z]+)")
 _ESCAPED = {"n": "\n", "r": "\r", "t": "\t", "0": "\0"}
 
+# So many lines are kept that were read.
+_MOST_KNOWN = 256
+
 EMPTY: Context = MappingProxyType({})
 
 T = TypeVar("T")
@@ -110,6 +113,8 @@ class Commands:
 
     def __init__(self) -> None:
         self._lock, self._is_busy = threading.RLock(), False
+        # (few lines answer most questions)
+        self._known: Dict[bytes, Line] = {}
 
     def _check(self) -> None:
         """Raises where this caller can't give a command."""
@@ -134,16 +139,17 @@ class Commands:
                 self._is_busy = False
 
     def _answered(self, verb: str, body: str) -> "Match[str]":
-        form = _FORMS.get(verb)
-        if form is None:
+        if verb not in _FORMS:
             raise NoCommand(verb)
         given = encoded(body)
         self._check()
-        return self._alone(self._matched, verb, given, form)
+        return self._alone(self._matched, verb, given)
 
-    def _matched(self, verb: str, body: bytes, form: "re.Pattern[str]") -> "Match[str]":
-        line = self._exchange(verb, body)
-        found = form.fullmatch(line[:-1].decode(errors="replace")) if line.endswith(b"\n") else None
+    def _matched(self, verb: str, body: bytes) -> "Match[str]":
+        return self._match(self._exchange(verb, body), verb)
+
+    def _match(self, line: bytes, verb: str) -> "Match[str]":
+        found = _FORMS[verb].fullmatch(line[:-1].decode(errors="replace")) if line.endswith(b"\n") else None
         if found is None:
             self._end()
             raise Ended(f"no line answers {verb}: {line[:80]!r}")
@@ -197,7 +203,22 @@ class Commands:
 
     def asked(self, question: str) -> Line:
         """Asks a question by its text, which nobody else wrote a part of."""
-        return _line_of(self._done("ask", question))
+        given = encoded(question)
+        self._check()
+        return self._alone(self._line_to, given)
+
+    def _line_to(self, question: bytes) -> Line:
+        line = self._exchange("ask", question)
+        known = self._known.get(line)
+        if known is None:
+            found = self._match(line, "ask")
+            if found["word"] is not None:
+                raise Refused(found["word"])
+            known = _line_of(found)
+            if len(self._known) >= _MOST_KNOWN:
+                self._known.clear()
+            self._known[line] = known
+        return known
 
     def tell(self, /, **known: Value) -> Answer:
         """Tells values by the names of the open question's unknowns, which may be `principal`, `action`, `resource` and `context`."""
