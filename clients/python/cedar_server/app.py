@@ -7,7 +7,7 @@ from contextlib import asynccontextmanager
 from dataclasses import dataclass
 from time import monotonic, perf_counter
 from types import MappingProxyType
-from typing import AsyncIterator, Awaitable, Callable, FrozenSet, List, Mapping, Optional, Tuple
+from typing import AsyncIterator, Awaitable, Callable, Dict, FrozenSet, List, Mapping, Optional, Tuple
 
 from cedar_session import CedarError, Refused, values
 from cedar_session.commands import Line
@@ -16,7 +16,6 @@ from starlette.exceptions import HTTPException
 from starlette.requests import ClientDisconnect, Request
 from starlette.responses import Response
 from starlette.routing import Route
-from starlette.types import ASGIApp, Receive, Scope, Send
 
 from . import answers, quick, reading
 from .decisions import Decisions, told_of
@@ -27,11 +26,13 @@ from .places import with_place
 from .points import Point
 from .questions import Question, evaluation_of, evaluations_of, question_of
 from .remembered import Given, Remembered
-from .requests import age_of, body_of, header, position_of, query_of
+from .requests import Headers, age_of, body_of, header, is_within, position_of, query_of
 from .tokens import Doors
 from .whole import answer_of
 
 Endpoint = Callable[[Request], Awaitable[Response]]
+# What answers a question by its body and the headers of its request.
+AtOnce = Callable[[bytes, Headers], Response]
 
 _LOGGER = logging.getLogger("gunicorn.error")
 _ENCODER = json.JSONEncoder(ensure_ascii=False, separators=(",", ":"))
@@ -67,21 +68,6 @@ class Said(Response):
         self.raw_headers = [(b"content-length", b"%d" % len(self.body)), (b"content-type", b"application/json")]
 
 
-class Front:
-    """The calls that ask one question, straight from the server, and behind them all others, by their paths and methods."""
-
-    def __init__(self, others: Starlette, asks: Mapping[str, Endpoint]):
-        self._others, self._asks = others, asks
-
-    async def __call__(self, scope: Scope, receive: Receive, send: Send) -> None:
-        ask = self._asks.get(scope["path"]) if scope["type"] == "http" and scope["method"] == "POST" else None
-        if ask is None:
-            await self._others(scope, receive, send)
-        else:
-            response = await ask(Request(scope, receive, send))
-            await response(scope, receive, send)
-
-
 class Service:
     """The calls, over what answers in this process."""
 
@@ -90,23 +76,23 @@ class Service:
         self._metrics, self._row, self._decisions, self._page = metrics, row, more.decisions, more.page
         self._remembered = Remembered()
 
-    def app(self) -> ASGIApp:
-        return Front(self._others(), {path: self._call(call, do) for path, call, do in self._asks()})
-
-    def _others(self) -> Starlette:
+    def app(self) -> Starlette:
         handlers = {HTTPException: self._no_path}
         app = Starlette(routes=self._routes(), exception_handlers=handlers, lifespan=self._lives)  # type: ignore[arg-type]
         # (another path is another path)
         app.router.redirect_slashes = False
         return app
 
-    def _asks(self) -> List[Tuple[str, str, Endpoint]]:
-        """The calls that ask one question."""
-        return [("/access/v1/evaluation", "evaluation", self._evaluation), ("/v1/ask", "ask", self._ask)]
+    def at_once(self) -> Dict[bytes, AtOnce]:
+        """What answers the calls that ask one question, by their paths, where nothing has to be waited for."""
+        if self._limits.age is not None:
+            return {}
+        return {b"/access/v1/evaluation": self._at_once("evaluation", self._of_evaluation), b"/v1/ask": self._at_once("ask", self._of_ask)}
 
     def _routes(self) -> List[Route]:
         questions = [
-            *self._asks(),
+            ("/access/v1/evaluation", "evaluation", self._evaluation),
+            ("/v1/ask", "ask", self._ask),
             ("/access/v1/evaluations", "evaluations", self._evaluations),
             ("/v1/is_authorized", "whole", self._whole),
         ]
@@ -153,22 +139,28 @@ class Service:
             since = perf_counter()
             try:
                 response = await do(request)
-            except Fault as why:
-                response = _refused(why)
-            except CedarError as why:
-                response = _refused(fault_of(why))
-            except ClientDisconnect:
-                response = _refused(Fault(400, "CutOff", "the body ended before its end"))
-            except Exception:
-                _LOGGER.exception("a call failed")
-                response = _refused(Fault(500, "Failed", "the service failed; its own log says how"))
-            return self._told(request, call, response, perf_counter() - since)
+            except Exception as why:
+                response = _refusal(why)
+            return self._told(request.scope["headers"], call, response, perf_counter() - since)
 
         return answered
 
-    def _told(self, request: Request, call: str, response: Response, seconds: float) -> Response:
+    def _at_once(self, call: str, ask: Callable[[bytes], Given]) -> AtOnce:
+        def answered(body: bytes, headers: Headers) -> Response:
+            since = perf_counter()
+            try:
+                self._doors.let_ask(header(headers, _TOKEN))
+                is_within(body, self._limits.body)
+                response = self._answered(headers, call, body, ask)
+            except Exception as why:
+                response = _refusal(why)
+            return self._told(headers, call, response, perf_counter() - since)
+
+        return answered
+
+    def _told(self, headers: Headers, call: str, response: Response, seconds: float) -> Response:
         self._row.requested(call, response.status_code, seconds)
-        given = _name_of(request)
+        given = _name_of(headers)
         if given is not None:
             response.headers["x-request-id"] = given
         return response
@@ -177,7 +169,7 @@ class Service:
         said = Fault(405, "NoMethod", f"{request.method} isn't a method of this path") if why.status_code == 405 else None
         response = _refused(said or Fault(404, "NoPath", "there is no such path; docs/SERVICE.md has those that are"))
         response.headers.update(why.headers or {})
-        return self._told(request, "other", response, 0.0)
+        return self._told(request.scope["headers"], "other", response, 0.0)
 
     async def _json(self, request: Request) -> object:
         return reading.read(await body_of(request, self._limits.body))
@@ -186,7 +178,7 @@ class Service:
 
     async def _asked(self, request: Request) -> bytes:
         """The body of a question, once this process has come to where it is asked."""
-        self._doors.let_ask(header(request, _TOKEN))
+        self._doors.let_ask(header(request.scope["headers"], _TOKEN))
         query = query_of(request, _QUESTION)
         position, age = position_of(query, "position"), age_of(query)
         body = await body_of(request, self._limits.body)
@@ -194,10 +186,10 @@ class Service:
             await self._point.come(position or 0, self._limits.age if age is None else age)
         return body
 
-    def _answered(self, request: Request, call: str, body: bytes, ask: Callable[[bytes], Given]) -> Response:
+    def _answered(self, headers: Headers, call: str, body: bytes, ask: Callable[[bytes], Given]) -> Response:
         """What one question is answered, from what is remembered where this process answers questions at all."""
         decision, said, line = ask(body) if self._point.why_not() else self._remembered.of(call, body, self._point.position, ask)
-        self._tell(request, decision, line)
+        self._tell(headers, decision, line)
         return Said(said)
 
     def _put(self, body: bytes, quickly: Callable[[bytes], Optional[str]], read: Callable[[object], Question]) -> Tuple[Line, str]:
@@ -209,20 +201,20 @@ class Service:
         line = self._point.asked(question.text())
         return line, "" if self._decisions is None else told_of(question, line)
 
-    def _tell(self, request: Request, decision: str, line: str) -> None:
+    def _tell(self, headers: Headers, decision: str, line: str) -> None:
         if self._decisions is not None:
-            self._decisions.tell(line, self._point.position, _name_of(request))
+            self._decisions.tell(line, self._point.position, _name_of(headers))
         self._row.decided(decision)
 
     async def _ask(self, request: Request) -> Response:
-        return self._answered(request, "ask", await self._asked(request), self._of_ask)
+        return self._answered(request.scope["headers"], "ask", await self._asked(request), self._of_ask)
 
     def _of_ask(self, body: bytes) -> Given:
         line, told = self._put(body, quick.asked, question_of)
         return line[0], answers.asked(line, self._point.position), told
 
     async def _evaluation(self, request: Request) -> Response:
-        return self._answered(request, "evaluation", await self._asked(request), self._of_evaluation)
+        return self._answered(request.scope["headers"], "evaluation", await self._asked(request), self._of_evaluation)
 
     def _of_evaluation(self, body: bytes) -> Given:
         line, told = self._put(body, quick.evaluation, evaluation_of)
@@ -234,13 +226,13 @@ class Service:
         for question in asked.questions:
             line, told = self._put_read(question)
             found.append(answers.evaluated(line, self._point.position))
-            self._tell(request, line[0], told)
+            self._tell(request.scope["headers"], line[0], told)
             if (line[0] == "allow") is asked.last:
                 break
         return Said(found[0] if asked.is_one else f'{{"evaluations":[{",".join(found)}]}}')
 
     async def _whole(self, request: Request) -> Response:
-        self._doors.let_ask(header(request, _TOKEN))
+        self._doors.let_ask(header(request.scope["headers"], _TOKEN))
         query_of(request, _NOTHING)
         try:
             answer = answer_of(await self._json(request))
@@ -257,7 +249,7 @@ class Service:
         return await self._point.edit(verb, body, _key(request), expected)
 
     def _let_edit(self, request: Request) -> None:
-        self._doors.let_edit(header(request, _TOKEN))
+        self._doors.let_edit(header(request.scope["headers"], _TOKEN))
 
     async def _load(self, request: Request) -> Response:
         self._let_edit(request)
@@ -330,15 +322,27 @@ def _refused(why: Fault, more: Mapping[str, object] = _NO_MORE) -> Response:
     return response
 
 
-def _name_of(request: Request) -> Optional[str]:
+def _refusal(why: Exception) -> Response:
+    """What is answered to a call that failed so."""
+    if isinstance(why, Fault):
+        return _refused(why)
+    if isinstance(why, CedarError):
+        return _refused(fault_of(why))
+    if isinstance(why, ClientDisconnect):
+        return _refused(Fault(400, "CutOff", "the body ended before its end"))
+    _LOGGER.error("a call failed", exc_info=why)
+    return _refused(Fault(500, "Failed", "the service failed; its own log says how"))
+
+
+def _name_of(headers: Headers) -> Optional[str]:
     """The name that the client gave its request."""
-    given = header(request, _REQUEST)
-    return given if given and len(given) <= _LONGEST else None
+    given = header(headers, _REQUEST)
+    return given if given and len(given) <= _LONGEST and given.isprintable() else None
 
 
 def _key(request: Request) -> Optional[str]:
     """The key by which an edit is done once, however often it is given."""
-    key = header(request, _KEY)
+    key = header(request.scope["headers"], _KEY)
     if key is not None and not (key.isascii() and key.isprintable() and 0 < len(key) <= _LONGEST):
         raise Fault(400, "NoKey", f"a key is 1 to {_LONGEST} characters of ASCII", "Idempotency-Key:")
     return key

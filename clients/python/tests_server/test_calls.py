@@ -103,8 +103,10 @@ class Answers(OverFolder):
 
     def test_a_request_keeps_its_name(self):
         caller = self.caller()
-        for path, body in ((EVALUATION, evaluation(hour=9)), (EVALUATION, "{"), ("/nowhere", "")):
+        for path, body in ((EVALUATION, evaluation(hour=9)), (EVALUATION, "{"), ("/nowhere", ""), ("/v1/ask?age=1", question(hour=9))):
             self.assertEqual(caller.post(path, body, X_Request_ID="it's me").headers["x-request-id"], "it's me")
+            for name in ("a\tb", "\x80", "x" * 201):
+                self.assertIsNone(caller.post(path, body, X_Request_ID=name).headers["x-request-id"], (path, name))
         self.assertIsNone(caller.ask(hour=9).headers["x-request-id"])
 
 
@@ -224,6 +226,18 @@ class FullLog(OverFolder):
             self.assertEqual(self.caller().post(path, body).fault, (503, "NoDecisionLog", ""))
 
 
+class Limits(OverFolder):
+    more = ("--limit", "300")
+
+    def test_longer_bodies(self):
+        caller = self.caller()
+        for path, body in (("/v1/ask", question(hour=9)), (EVALUATION, evaluation(hour=9))):
+            longest = json.dumps(body).ljust(300)
+            for more in ("", "?position=0"):
+                self.assertEqual(caller.post(path + more, longest).status, 200, path + more)
+                self.assertEqual(caller.post(path + more, longest + " ").fault, (413, "TooLong", ""), path + more)
+
+
 class Clients(OverFolder):
     """Slow clients, and those that go."""
 
@@ -253,6 +267,86 @@ class Clients(OverFolder):
             time.sleep(0.001)
             connection.sendall(whole[at:])
             self.is_answered(connection)
+
+    def answers(self, connection, count):
+        """The bodies of so many answers."""
+        data = b""
+        while data.count(b"HTTP/1.1 ") < count or not data.endswith((b"}", b"\n")):
+            more = connection.recv(65536)
+            if not more:
+                break
+            data += more
+        return [it.partition(b"\r\n\r\n")[2] for it in data.split(b"HTTP/1.1 ")[1:]]
+
+    def test_requests_in_one_piece(self):
+        """Each is answered in its turn, however they are cut."""
+        asks = [self.request(json.dumps(question(hour=hour)).encode()) for hour in (9, 18)]
+        health = b"GET /healthz HTTP/1.1\r\nHost: x\r\n\r\n"
+        other = asks[0].replace(b"/v1/ask", b"/v1/ask?age=0")
+        told = {asks[0]: b'"allow"', asks[1]: b'"deny"', health: b'"serves"', other: b'"allow"'}
+        for order in ((0, 1, 0), (0, 2, 1), (2, 0, 2), (3, 1, 0), (1, 3, 3, 2, 0), (0,) * 20 + (1,) * 20):
+            requests = [(*asks, health, other)[it] for it in order]
+            whole = b"".join(requests)
+            for cut in (0, len(requests[0]) // 2, len(requests[0]), len(requests[0]) + 30, len(whole) - 5):
+                connection = self.raw()
+                connection.sendall(whole[:cut])
+                time.sleep(0.02 * (cut > 0))
+                connection.sendall(whole[cut:])
+                found = self.answers(connection, len(requests))
+                self.assertEqual([told[given] in it for given, it in zip(requests, found)], [True] * len(requests), (order, cut, found))
+
+    def test_the_last_request(self):
+        for head in (b"Connection: close\r\n", b"connection: Close\r\n"):
+            connection = self.raw()
+            connection.sendall(self.request(json.dumps(question(hour=9)).encode()).replace(b"Host:", head + b"Host:"))
+            data = b""
+            while True:
+                more = connection.recv(65536)
+                if not more:
+                    break
+                data += more
+            self.assertIn(b'"decision":"allow"', data)
+            self.assertIn(b"connection: close\r\n", data)
+        connection = self.raw()
+        connection.sendall(self.request(json.dumps(question(hour=9)).encode()).replace(b"HTTP/1.1", b"HTTP/1.0"))
+        self.assertIn(b'"allow"', connection.recv(65536) + connection.recv(65536))
+        self.assertEqual(connection.recv(65536), b"")
+
+    def test_lines_between_requests(self):
+        """They keep no connection open."""
+        connection, since = self.raw(60), time.monotonic()
+        connection.sendall(self.request(json.dumps(question(hour=9)).encode()))
+        self.is_answered(connection)
+        connection.sendall(b"\r\n")
+        self.assertEqual(connection.recv(65536), b"")
+        self.assertLess(time.monotonic() - since, 40)
+
+    def test_expectations(self):
+        connection = self.raw()
+        body = json.dumps(question(hour=9)).encode()
+        head, _, _ = self.request(body).partition(b"\r\n\r\n")
+        connection.sendall(head + b"\r\nExpect: 100-continue\r\n\r\n")
+        self.assertTrue(connection.recv(65536).startswith(b"HTTP/1.1 100 "))
+        connection.sendall(body)
+        self.is_answered(connection)
+
+    def test_a_client_that_does_not_read(self):
+        """It asks on, until neither side has room for more, and others are answered."""
+        connection = self.raw(3)
+        with self.assertRaises(OSError):
+            while True:
+                connection.sendall(self.request(json.dumps(question(hour=9)).encode()) * 50)
+        for _ in range(20):
+            self.assertEqual(self.caller().ask(hour=9).status, 200)
+        found, connection = 0, connection
+        connection.settimeout(5)
+        with contextlib.suppress(OSError):
+            while found < 100_000:
+                data = connection.recv(1 << 20)
+                if not data:
+                    break
+                found += data.count(b'"decision":"allow"')
+        self.assertGreater(found, 100)
 
     def test_a_body_that_does_not_come(self):
         connection = self.raw()
