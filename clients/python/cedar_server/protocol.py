@@ -19,8 +19,8 @@ class Protocol(HttpToolsProtocol):  # type: ignore[misc]
     """HTTP by a parser in C. It closes a connection on which no whole request comes in time; where the process ends, the first request of a
     connection that was just taken is still answered.
 
-    A question that comes in one piece is answered at once, without a task of its own and the layers of the framework: that is half of what an answer
-    takes. Any other request goes that way."""
+    A question that comes in one piece is answered at once, without a task of its own and the layers of the framework, which take longer than the
+    answer. Any other request goes that way."""
 
     seconds = 30.0
     # What answers those questions, by their paths.
@@ -74,7 +74,7 @@ class Protocol(HttpToolsProtocol):  # type: ignore[misc]
     def _may_answer(self) -> bool:
         """Whether a question may be answered as soon as it is there: nothing else is under way, and the client reads."""
         parser, waits = self.parser, self._is_last or self.flow.write_paused or self.pipeline or self.transport.is_closing()
-        is_plain = parser.get_method() == b"POST" and parser.get_http_version() == "1.1" and not self.expect_100_continue and not parser.should_upgrade()
+        is_plain = parser.get_method() == b"POST" and parser.get_http_version() == "1.1" and not parser.should_upgrade()
         return bool(is_plain and not waits and (self.cycle is None or self.cycle.response_complete))
 
     def _begin(self) -> None:

@@ -51,7 +51,6 @@ PLANTED = (
     ("protocol", "not waits and (self.cycle is None or self.cycle.response_complete)", "True", f"{CALLS}.Clients.test_requests_in_one_piece"),
     ("protocol", "elif self._whole is None and not self._rests:", "elif False:", f"{CALLS}.Clients.test_lines_between_requests"),
     ("protocol", "stays = self.parser.should_keep_alive()", "stays = True", f"{CALLS}.Clients.test_the_last_request"),
-    ("protocol", "and not self.expect_100_continue", "", f"{CALLS}.Clients.test_expectations"),
     ("protocol", "self._whole = self.loop.call_later(self.seconds, self._is_late)", "pass", f"{CALLS}.Clients.test_a_head_that_does_not_come"),
     ("points", "self._session.command(*edit)", "self._session.line(*edit)", "test_points.Folders"),
     ("points", "line = self._use(lambda copy: copy.edit(key=named)", "line = self._use(lambda copy: copy", f"{EDITS}.test_each_edit"),
