@@ -34,7 +34,8 @@ def _arguments() -> argparse.ArgumentParser:
     asked.add_argument("--limit", metavar="BYTES", type=int, default=Limits.body, help=f"bodies are no longer ({Limits.body})")
     asked.add_argument("--seconds", metavar="S", type=float, default=Limits.seconds, help=f"heads and bodies come in that time ({Limits.seconds:g})")
     asked.add_argument("--age", metavar="S", type=float, help="questions that state no age are asked for this one")
-    asked.add_argument("--silence", metavar="S", type=int, default=Settings.silence, help=f"a process may be busy so long, {_SILENCE} or more ({Settings.silence})")
+    silence = f"a process may be busy so long, {_SILENCE} or more ({Settings.silence})"
+    asked.add_argument("--silence", metavar="S", type=int, default=Settings.silence, help=silence)
     return asked
 
 

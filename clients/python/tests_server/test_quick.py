@@ -108,7 +108,8 @@ class Questions(unittest.TestCase):
 
     def test_what_is_refused_is_not_told(self):
         bodies = [json.dumps(given).encode() for given, _, _ in (*QUESTIONS, *EVALUATIONS)] + [given for given, _, _ in FAULTS]
-        bodies += [b'{"principal": %s, "action": %s, "resource": %s, "context": {"x": %s}}' % (*(json.dumps(it).encode() for it in (U, A, R)), it) for it, _, _ in FAULTS]
+        parts = [json.dumps(it).encode() for it in (U, A, R)]
+        bodies += [b'{"principal": %s, "action": %s, "resource": %s, "context": {"x": %s}}' % (*parts, it) for it, _, _ in FAULTS]
         for body in bodies:
             for short, long in WAYS:
                 if read(body, long) is None:
@@ -142,7 +143,8 @@ class Answers(unittest.TestCase):
         any_text, user = Any(time.time_ns()), Entity("U", "a")
         asked = '{principal:U::"a",action:A::"v",resource:R::"r",context:{}}'
         with cedar.Session() as session:
-            (fine, errs) = session.load("permit(principal == ?principal, action, resource); permit(principal == ?principal, action, resource) when { context.x };")
+            scope = "permit(principal == ?principal, action, resource)"
+            (fine, errs) = session.load(f"{scope}; {scope} when {{ context.x }};")
             for at in range(500):
                 ids = [f"{any_text.text()}{it} {at}".replace("\ud800", "") for it in range(2)]
                 for template, link in zip((fine, errs), ids):
