@@ -7,11 +7,26 @@
 # answer that of a session of its own at its position; a process is killed in the middle of edits, the database ended, restored from an older backup,
 # full, or silent, replies of the service cut behind each byte. Three copies behind haproxy, as tools/three_copies.py starts them; the page, in
 # Chromium; and what docs/SERVICE.md shows.
-# Says what it left out for want of packages, and ends with status 1 where anything fails, or takes more than SECONDS_OF_SERVICE (280).
+# Says what it left out for want of packages, and ends with status 1 where anything fails, or takes more than SECONDS_OF_SERVICE (600). Nothing that it
+# began is there when it ends, nor a file of it; and all of it speaks on loopback alone.
 set -u
 library=$(realpath "${1:-crates/cedar_c/out/cedar/lib/libcedar.so}")
-room=$(mktemp -d)
-trap 'rm -rf "$room"' EXIT
+seconds=${SECONDS_OF_SERVICE:-600}
+# In memory, where there is room for databases.
+has_room() { [ -w "$1" ] && [ "$(df --output=avail -k "$1" | tail -n 1)" -gt 2000000 ]; }
+if has_room /dev/shm; then room=$(mktemp -d -p /dev/shm); else room=$(mktemp -d); fi
+# (the account of a database's server gets through)
+chmod 711 "$room"
+running=()
+ends() {
+    [ ${#running[@]} -eq 0 ] || kill "${running[@]}" 2> "$room/found"
+    wait
+    rm -rf "$room"
+}
+trap ends EXIT
+trap 'exit 143' TERM INT HUP
+export TMPDIR="$room" CEDAR_PORTS="$room"
+unset http_proxy https_proxy all_proxy HTTP_PROXY HTTPS_PROXY ALL_PROXY
 
 left_out() {
     echo "left out, for want of $1: $2"
@@ -28,10 +43,10 @@ for it in python3 /usr/bin/python3; do
 done
 [ -n "$python" ] || { left_out 'starlette, uvicorn, httptools, gunicorn or psycopg 3' 'the service' && exit 0; }
 
-parts=('test_reading test_points test_whole test_calls')
+parts=('test_reading test_quick test_points test_whole' 'test_calls')
 if (cd clients/python && "$python" -B -c 'import tests.postgres as it; raise SystemExit(not it.tools())'); then
     parts+=('test_copies' 'test_outages.Outages' 'test_outages.Cuts' 'test_many' 'test_planted')
-    if command -v haproxy > "$room/found"; then parts+=('test_three test_page'); else left_out haproxy 'three copies behind it'; fi
+    if command -v haproxy > "$room/found"; then parts+=('test_three' 'test_page'); else left_out haproxy 'three copies behind it'; fi
 else
     left_out PostgreSQL 'copies'
 fi
@@ -41,16 +56,15 @@ else
     left_out 'chromium, its driver or selenium' 'the page'
 fi
 if command -v mypy > "$room/found"; then
-    (cd clients/python && mypy --strict --cache-dir "$room/mypy" cedar_server) || exit 1
+    (cd clients/python && timeout -k 10 "$seconds" mypy --strict --cache-dir "$room/mypy" cedar_server) || exit 1
 else
     left_out mypy 'types of the service'
 fi
 
 # Side by side, each part with a server of its own.
-running=()
 for part in "${parts[@]}"; do
     # shellcheck disable=SC2086
-    (cd clients/python && CEDAR_LIBRARY="$library" exec timeout -k 10 "${SECONDS_OF_SERVICE:-280}" "$python" -B -m unittest -q ${part//test_/tests_server.test_}) \
+    (cd clients/python && CEDAR_LIBRARY="$library" exec python3 ../../tools/bounded.py "$seconds" "$python" -B -m unittest -q ${part//test_/tests_server.test_}) \
         > "$room/${#running[@]}" 2>&1 &
     running+=($!)
 done
@@ -58,12 +72,13 @@ failed=0
 for at in "${!running[@]}"; do
     if wait "${running[$at]}"; then
         echo "fine: ${parts[$at]}"
-        grep 'questions at' "$room/$at"
+        grep -E 'questions at|^left out' "$room/$at"
     else
         failed=$((failed + 1))
         echo "FAILED: ${parts[$at]}"
         tail -n 40 "$room/$at"
     fi
+    unset "running[$at]"
 done
-echo "$((${#running[@]} - failed)) passed, $failed failed"
+echo "$((${#parts[@]} - failed)) passed, $failed failed"
 [ $failed -eq 0 ]

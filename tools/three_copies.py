@@ -26,6 +26,7 @@ from cedar_session.copies import Log, NoLog
 from tests.postgres import Server
 
 LOG, COPIES = "three", 3
+DIRECTLY = urllib.request.build_opener(urllib.request.ProxyHandler({}))
 # A copy that isn't ready is asked nothing; a request that none has taken goes to another. Slow heads and bodies end here.
 BALANCER = """global
     maxconn 2000
@@ -105,12 +106,12 @@ class Room:
         self.run("haproxy", ["haproxy", "-db", "-f", settings])
         self.wait(self.port)
 
-    def wait(self, port, seconds=60):
+    def wait(self, port, seconds=120):
         until = time.monotonic() + seconds
         while time.monotonic() < until:
             if any(it.poll() is not None for it in self.running):
                 break
-            with contextlib.suppress(OSError), urllib.request.urlopen(f"http://127.0.0.1:{port}/readyz", timeout=5):
+            with contextlib.suppress(OSError), DIRECTLY.open(f"http://127.0.0.1:{port}/readyz", timeout=5):
                 return
             time.sleep(0.1)
         raise Failed(f"nothing is ready at the port {port}; {self.path} says more")

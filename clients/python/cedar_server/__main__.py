@@ -15,6 +15,8 @@ from .tokens import Doors, Tokens
 from .workers import Settings, serve
 
 _DATABASE = "CEDAR_DATABASE"
+# (one that isn't busy says so once a second, and later where the machine is)
+_SILENCE = 10
 
 
 def _arguments() -> argparse.ArgumentParser:
@@ -32,7 +34,8 @@ def _arguments() -> argparse.ArgumentParser:
     asked.add_argument("--limit", metavar="BYTES", type=int, default=Limits.body, help=f"bodies are no longer ({Limits.body})")
     asked.add_argument("--seconds", metavar="S", type=float, default=Limits.seconds, help=f"heads and bodies come in that time ({Limits.seconds:g})")
     asked.add_argument("--age", metavar="S", type=float, help="questions that state no age are asked for this one")
-    asked.add_argument("--silence", metavar="S", type=int, default=Settings.silence, help=f"a process may be busy so long ({Settings.silence})")
+    silence = f"a process may be busy so long, {_SILENCE} or more ({Settings.silence})"
+    asked.add_argument("--silence", metavar="S", type=int, default=Settings.silence, help=silence)
     return asked
 
 
@@ -44,7 +47,7 @@ def _wrong(given: argparse.Namespace) -> Optional[str]:
         return "a folder is wanted, or --database"
     if given.folder is not None and given.database is not None and not given.create:
         return "a folder goes with --database where --create stands: the log has the policies then"
-    if given.processes < 1 or given.limit < 1 or given.seconds <= 0 or given.silence < 1 or (given.age is not None and given.age < 0):
+    if given.processes < 1 or given.limit < 1 or given.seconds <= 0 or given.silence < _SILENCE or (given.age is not None and given.age < 0):
         return "a number is too small"
     return None
 

@@ -9,14 +9,15 @@ from time import monotonic, perf_counter
 from types import MappingProxyType
 from typing import AsyncIterator, Awaitable, Callable, Dict, FrozenSet, List, Mapping, Optional, Tuple
 
-from cedar_session import Answer, CedarError, Decision, Refused, values
+from cedar_session import CedarError, Refused, values
+from cedar_session.commands import Line
 from starlette.applications import Starlette
 from starlette.exceptions import HTTPException
 from starlette.requests import ClientDisconnect, Request
 from starlette.responses import Response
 from starlette.routing import Route
 
-from . import reading
+from . import answers, quick, reading
 from .decisions import Decisions, told_of
 from .faults import Fault, fault_of
 from .metrics import Metrics, Row
@@ -25,11 +26,13 @@ from .places import with_place
 from .points import Point
 from .questions import Question, evaluation_of, evaluations_of, question_of
 from .remembered import Given, Remembered
-from .requests import age_of, body_of, header, position_of, query_of
+from .requests import Headers, age_of, body_of, header, is_within, position_of, query_of
 from .tokens import Doors
 from .whole import answer_of
 
 Endpoint = Callable[[Request], Awaitable[Response]]
+# What answers a question by its body and the headers of its request.
+AtOnce = Callable[[bytes, Headers], Response]
 
 _LOGGER = logging.getLogger("gunicorn.error")
 _ENCODER = json.JSONEncoder(ensure_ascii=False, separators=(",", ":"))
@@ -57,6 +60,14 @@ class More:
     page: Optional[Page] = None
 
 
+class Said(Response):
+    """JSON that is answered."""
+
+    def __init__(self, text: str) -> None:
+        self.status_code, self.background, self.body = 200, None, text.encode()
+        self.raw_headers = [(b"content-length", b"%d" % len(self.body)), (b"content-type", b"application/json")]
+
+
 class Service:
     """The calls, over what answers in this process."""
 
@@ -72,11 +83,17 @@ class Service:
         app.router.redirect_slashes = False
         return app
 
+    def at_once(self) -> Dict[bytes, AtOnce]:
+        """What answers the calls that ask one question, by their paths, where nothing has to be waited for."""
+        if self._limits.age is not None:
+            return {}
+        return {b"/access/v1/evaluation": self._at_once("evaluation", self._of_evaluation), b"/v1/ask": self._at_once("ask", self._of_ask)}
+
     def _routes(self) -> List[Route]:
         questions = [
             ("/access/v1/evaluation", "evaluation", self._evaluation),
-            ("/access/v1/evaluations", "evaluations", self._evaluations),
             ("/v1/ask", "ask", self._ask),
+            ("/access/v1/evaluations", "evaluations", self._evaluations),
             ("/v1/is_authorized", "whole", self._whole),
         ]
         edits = [
@@ -122,22 +139,28 @@ class Service:
             since = perf_counter()
             try:
                 response = await do(request)
-            except Fault as why:
-                response = _refused(why)
-            except CedarError as why:
-                response = _refused(fault_of(why))
-            except ClientDisconnect:
-                response = _refused(Fault(400, "CutOff", "the body ended before its end"))
-            except Exception:
-                _LOGGER.exception("a call failed")
-                response = _refused(Fault(500, "Failed", "the service failed; its own log says how"))
-            return self._told(request, call, response, perf_counter() - since)
+            except Exception as why:
+                response = _refusal(why)
+            return self._told(request.scope["headers"], call, response, perf_counter() - since)
 
         return answered
 
-    def _told(self, request: Request, call: str, response: Response, seconds: float) -> Response:
+    def _at_once(self, call: str, ask: Callable[[bytes], Given]) -> AtOnce:
+        def answered(body: bytes, headers: Headers) -> Response:
+            since = perf_counter()
+            try:
+                self._doors.let_ask(header(headers, _TOKEN))
+                is_within(body, self._limits.body)
+                response = self._answered(headers, call, body, ask)
+            except Exception as why:
+                response = _refusal(why)
+            return self._told(headers, call, response, perf_counter() - since)
+
+        return answered
+
+    def _told(self, headers: Headers, call: str, response: Response, seconds: float) -> Response:
         self._row.requested(call, response.status_code, seconds)
-        given = _name_of(request)
+        given = _name_of(headers)
         if given is not None:
             response.headers["x-request-id"] = given
         return response
@@ -146,7 +169,7 @@ class Service:
         said = Fault(405, "NoMethod", f"{request.method} isn't a method of this path") if why.status_code == 405 else None
         response = _refused(said or Fault(404, "NoPath", "there is no such path; docs/SERVICE.md has those that are"))
         response.headers.update(why.headers or {})
-        return self._told(request, "other", response, 0.0)
+        return self._told(request.scope["headers"], "other", response, 0.0)
 
     async def _json(self, request: Request) -> object:
         return reading.read(await body_of(request, self._limits.body))
@@ -155,58 +178,61 @@ class Service:
 
     async def _asked(self, request: Request) -> bytes:
         """The body of a question, once this process has come to where it is asked."""
-        self._doors.let_ask(header(request, _TOKEN))
+        self._doors.let_ask(header(request.scope["headers"], _TOKEN))
         query = query_of(request, _QUESTION)
         position, age = position_of(query, "position"), age_of(query)
         body = await body_of(request, self._limits.body)
-        await self._point.come(position or 0, self._limits.age if age is None else age)
+        if query or self._limits.age is not None:
+            await self._point.come(position or 0, self._limits.age if age is None else age)
         return body
 
-    def _answered(self, request: Request, call: str, body: bytes, ask: Callable[[bytes], Given]) -> Response:
+    def _answered(self, headers: Headers, call: str, body: bytes, ask: Callable[[bytes], Given]) -> Response:
         """What one question is answered, from what is remembered where this process answers questions at all."""
         decision, said, line = ask(body) if self._point.why_not() else self._remembered.of(call, body, self._point.position, ask)
-        self._tell(request, decision, line)
-        return Response(said, media_type="application/json")
+        self._tell(headers, decision, line)
+        return Said(said)
 
-    def _line(self, question: Question, answer: Answer) -> str:
-        return "" if self._decisions is None else told_of(question, answer)
+    def _put(self, body: bytes, quickly: Callable[[bytes], Optional[str]], read: Callable[[object], Question]) -> Tuple[Line, str]:
+        """Puts a question to the session: what that says, and what the log of decisions says of it."""
+        text = quickly(body) if self._decisions is None else None
+        return self._put_read(read(reading.read(body))) if text is None else (self._point.asked(text), "")
 
-    def _tell(self, request: Request, decision: str, line: str) -> None:
+    def _put_read(self, question: Question) -> Tuple[Line, str]:
+        line = self._point.asked(question.text())
+        return line, "" if self._decisions is None else told_of(question, line)
+
+    def _tell(self, headers: Headers, decision: str, line: str) -> None:
         if self._decisions is not None:
-            self._decisions.tell(line, self._point.position, _name_of(request))
+            self._decisions.tell(line, self._point.position, _name_of(headers))
         self._row.decided(decision)
 
     async def _ask(self, request: Request) -> Response:
-        return self._answered(request, "ask", await self._asked(request), self._of_ask)
+        return self._answered(request.scope["headers"], "ask", await self._asked(request), self._of_ask)
 
     def _of_ask(self, body: bytes) -> Given:
-        question = question_of(reading.read(body))
-        answer, position = self._point.ask(question), self._point.position
-        decision: str = answer.decision.value
-        shown = {"decision": decision, "must": answer.must, "may": answer.may, "erring": answer.erring, "position": position}
-        return decision, _ENCODER.encode(shown), self._line(question, answer)
+        line, told = self._put(body, quick.asked, question_of)
+        return line[0], answers.asked(line, self._point.position), told
 
     async def _evaluation(self, request: Request) -> Response:
-        return self._answered(request, "evaluation", await self._asked(request), self._of_evaluation)
+        return self._answered(request.scope["headers"], "evaluation", await self._asked(request), self._of_evaluation)
 
     def _of_evaluation(self, body: bytes) -> Given:
-        question = evaluation_of(reading.read(body))
-        answer = self._point.ask(question)
-        return answer.decision.value, _ENCODER.encode(_evaluated(answer, self._point.position)), self._line(question, answer)
+        line, told = self._put(body, quick.evaluation, evaluation_of)
+        return line[0], answers.evaluated(line, self._point.position), told
 
     async def _evaluations(self, request: Request) -> Response:
         asked = evaluations_of(reading.read(await self._asked(request)))
         found = []
         for question in asked.questions:
-            answer = self._point.ask(question)
-            found.append(_evaluated(answer, self._point.position))
-            self._tell(request, answer.decision.value, self._line(question, answer))
-            if found[-1]["decision"] is asked.last:
+            line, told = self._put_read(question)
+            found.append(answers.evaluated(line, self._point.position))
+            self._tell(request.scope["headers"], line[0], told)
+            if (line[0] == "allow") is asked.last:
                 break
-        return _json(found[0] if asked.is_one else {"evaluations": found})
+        return Said(found[0] if asked.is_one else f'{{"evaluations":[{",".join(found)}]}}')
 
     async def _whole(self, request: Request) -> Response:
-        self._doors.let_ask(header(request, _TOKEN))
+        self._doors.let_ask(header(request.scope["headers"], _TOKEN))
         query_of(request, _NOTHING)
         try:
             answer = answer_of(await self._json(request))
@@ -223,7 +249,7 @@ class Service:
         return await self._point.edit(verb, body, _key(request), expected)
 
     def _let_edit(self, request: Request) -> None:
-        self._doors.let_edit(header(request, _TOKEN))
+        self._doors.let_edit(header(request.scope["headers"], _TOKEN))
 
     async def _load(self, request: Request) -> Response:
         self._let_edit(request)
@@ -285,11 +311,6 @@ class Service:
         return Response(self._metrics.text(monotonic()), media_type="text/plain; version=0.0.4")
 
 
-def _evaluated(answer: Answer, position: int) -> Dict[str, object]:
-    """An answer as AuthZEN has it."""
-    return {"decision": answer.decision is Decision.ALLOW, "context": {"reasons": answer.must, "erring": answer.erring, "position": position}}
-
-
 def _json(said: object, status: int = 200) -> Response:
     return Response(_ENCODER.encode(said), status, media_type="application/json")
 
@@ -301,15 +322,27 @@ def _refused(why: Fault, more: Mapping[str, object] = _NO_MORE) -> Response:
     return response
 
 
-def _name_of(request: Request) -> Optional[str]:
+def _refusal(why: Exception) -> Response:
+    """What is answered to a call that failed so."""
+    if isinstance(why, Fault):
+        return _refused(why)
+    if isinstance(why, CedarError):
+        return _refused(fault_of(why))
+    if isinstance(why, ClientDisconnect):
+        return _refused(Fault(400, "CutOff", "the body ended before its end"))
+    _LOGGER.error("a call failed", exc_info=why)
+    return _refused(Fault(500, "Failed", "the service failed; its own log says how"))
+
+
+def _name_of(headers: Headers) -> Optional[str]:
     """The name that the client gave its request."""
-    given = header(request, _REQUEST)
-    return given if given and len(given) <= _LONGEST else None
+    given = header(headers, _REQUEST)
+    return given if given and len(given) <= _LONGEST and given.isprintable() else None
 
 
 def _key(request: Request) -> Optional[str]:
     """The key by which an edit is done once, however often it is given."""
-    key = header(request, _KEY)
+    key = header(request.scope["headers"], _KEY)
     if key is not None and not (key.isascii() and key.isprintable() and 0 < len(key) <= _LONGEST):
         raise Fault(400, "NoKey", f"a key is 1 to {_LONGEST} characters of ASCII", "Idempotency-Key:")
     return key

@@ -5,9 +5,11 @@ import os
 from datetime import datetime, timezone
 from typing import Optional
 
-from cedar_session import Answer, Entity
+from cedar_session import Entity
+from cedar_session.commands import Line
 from cedar_session.values import Part
 
+from . import answers
 from .faults import Fault
 from .questions import Question
 
@@ -33,18 +35,10 @@ class Decisions:
             raise Fault(503, "NoDecisionLog", "the log of decisions is full")
 
 
-def told_of(question: Question, answer: Answer) -> str:
-    """What a line says of a question and its answer, as fields in JSON. The question's context isn't among them."""
-    told = {
-        "principal": _part(question.principal),
-        "action": _part(question.action),
-        "resource": _part(question.resource),
-        "decision": answer.decision.value,
-        "must": answer.must,
-        "may": answer.may,
-        "erring": answer.erring,
-    }
-    return _ENCODER.encode(told)[1:-1]
+def told_of(question: Question, line: Line) -> str:
+    """What is told of a question and its answer, as fields in JSON. The question's context isn't among them."""
+    told = {"principal": _part(question.principal), "action": _part(question.action), "resource": _part(question.resource)}
+    return f"{_ENCODER.encode(told)[1:-1]},{answers.fields(line)}"
 
 
 def _part(part: Part) -> Optional[object]:

@@ -4,7 +4,8 @@ all. A process that is begun anew goes on with the row, so that no count goes ba
 import ctypes
 import mmap
 import os
-from typing import Dict, Iterator, List, Tuple
+from bisect import bisect_left
+from typing import Dict, Iterator, List, Optional, Tuple
 
 CALLS = ("evaluation", "evaluations", "ask", "whole", "edit", "held", "other")
 STATUSES = (200, 400, 401, 403, 404, 405, 408, 409, 413, 415, 422, 428, 500, 503)
@@ -18,6 +19,8 @@ _REQUESTS = [(call, status) for call in CALLS for status in STATUSES]
 _NAMES: List[object] = [*_GAUGES, *_REQUESTS, *DECISIONS, *(("le", it) for it in (*BOUNDS, "+Inf")), "seconds"]
 _AT: Dict[object, int] = {name: index for index, name in enumerate(_NAMES)}
 _WIDTH = len(_NAMES)
+# (the bounds stand in their order)
+_FIRST_BOUND, _SECONDS = _AT["le", BOUNDS[0]], _AT["seconds"]
 
 
 class Metrics:
@@ -28,8 +31,9 @@ class Metrics:
         # (each number is written whole, by one process alone)
         self._cells = (ctypes.c_double * (rows * _WIDTH)).from_buffer(mmap.mmap(-1, rows * _WIDTH * 8))
 
-    def row(self, index: int) -> "Row":
-        return Row(self._cells, index * _WIDTH)
+    def row(self, index: Optional[int]) -> "Row":
+        """A row of these, or one that nobody else sees."""
+        return Row((ctypes.c_double * _WIDTH)(), 0) if index is None else Row(self._cells, index * _WIDTH)
 
     def leave(self, index: int) -> None:
         """The process of this row has ended."""
@@ -100,7 +104,7 @@ class Row:
 
     def requested(self, call: str, status: int, seconds: float) -> None:
         """Counts a request that was answered."""
-        bound: object = next((it for it in BOUNDS if seconds <= it), "+Inf")
-        self._cells[self._at + _AT[call, status]] += 1
-        self._cells[self._at + _AT["le", bound]] += 1
-        self._cells[self._at + _AT["seconds"]] += seconds
+        cells, at = self._cells, self._at
+        cells[at + _AT[call, status]] += 1
+        cells[at + _FIRST_BOUND + bisect_left(BOUNDS, seconds)] += 1
+        cells[at + _SECONDS] += seconds

@@ -9,14 +9,13 @@ from time import monotonic
 from typing import Callable, Iterable, List, Optional, Tuple, TypeVar
 
 import cedar_session as cedar
-from cedar_session import Answer, CedarError, NotOpen, Refused
-from cedar_session.commands import EDITS, encoded, ids_of
+from cedar_session import CedarError, NotOpen, Refused
+from cedar_session.commands import EDITS, Line, encoded, ids_of
 from cedar_session.copies import Behind, Broken, Copy, Log, LogError, NoLog, Place, Stopped
 from cedar_session.held import Held
 
 from . import folder
 from .faults import Fault
-from .questions import Question
 
 T = TypeVar("T")
 
@@ -30,7 +29,7 @@ class Point:
 
     position = 0
 
-    def ask(self, question: Question) -> Answer:
+    def asked(self, question: str) -> Line:
         """The answer as of `position`."""
         raise NotImplementedError
 
@@ -70,8 +69,8 @@ class FolderPoint(Point):
             beat()
             self._session.command(*edit)
 
-    def ask(self, question: Question) -> Answer:
-        return self._session.ask(principal=question.principal, action=question.action, resource=question.resource, context=question.context)
+    def asked(self, question: str) -> Line:
+        return self._session.asked(question)
 
     def why_not(self) -> Optional[str]:
         return None
@@ -112,10 +111,10 @@ class CopyPoint(Point):
     def position(self) -> int:  # type: ignore[override]
         return self._copy.position if self._copy else 0
 
-    def ask(self, question: Question) -> Answer:
+    def asked(self, question: str) -> Line:
         copy = self._begun()
         try:
-            return copy.ask(principal=question.principal, action=question.action, resource=question.resource, context=question.context)
+            return copy.asked(question)
         except NotOpen as why:
             self._why = str(why)
             raise

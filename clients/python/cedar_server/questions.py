@@ -3,7 +3,7 @@
 from dataclasses import dataclass
 from typing import Dict, List, Optional
 
-from cedar_session import UNKNOWN, Entity, UnknownPart
+from cedar_session import UNKNOWN, Entity, UnknownPart, values
 from cedar_session.values import Context, Part, Value
 
 from .faults import Fault
@@ -29,6 +29,10 @@ class Question:
     action: Part
     resource: Part
     context: Context
+
+    def text(self) -> str:
+        """The text by which a session is asked it."""
+        return values.question_of(self.principal, self.action, self.resource, self.context)
 
 
 @dataclass(frozen=True)

@@ -5,17 +5,17 @@ import json
 from collections import Counter
 from typing import AbstractSet, Callable, Dict, List, Tuple, TypeVar
 
-from cedar_session import CedarError, Entity, Unknown
+from cedar_session import CedarError, Entity, Extension, Unknown
 from cedar_session.values import Value
 
 from .faults import Fault
 
 T = TypeVar("T")
 
-_LEAST, _MOST = -(2**63), 2**63 - 1
-_UID = frozenset(("type", "id"))
+LEAST, MOST = -(2**63), 2**63 - 1
+_UID, _CALL = frozenset(("type", "id")), frozenset(("fn", "arg"))
 _ENTITY = frozenset(("uid", "attrs", "parents", "tags"))
-_ESCAPES = frozenset(("__entity", "__extn", "__expr", "__unknown"))
+ESCAPES = frozenset(("__entity", "__extn", "__expr", "__unknown"))
 _NONE: AbstractSet[str] = frozenset()
 _NAMES = {dict: "an object", list: "a list", str: "a string", bool: "a truth value", int: "a number", type(None): "null"}
 
@@ -41,8 +41,8 @@ def _fraction(text: str) -> object:
 
 def _whole(text: str) -> object:
     # (20 characters have room for any number of 64 bits, with its sign)
-    number = int(text) if len(text) <= 20 else _MOST + 1
-    return number if _LEAST <= number <= _MOST else _Wrong("BeyondLong", f"{text[:40]} has more than 64 bits")
+    number = int(text) if len(text) <= 20 else MOST + 1
+    return number if LEAST <= number <= MOST else _Wrong("BeyondLong", f"{text[:40]} has more than 64 bits")
 
 
 _DECODER = json.JSONDecoder(object_pairs_hook=_object, parse_float=_fraction, parse_constant=_fraction, parse_int=_whole)
@@ -134,7 +134,7 @@ def value_of(value: object, at: str, may_wait: bool = False) -> Value:
         if isinstance(value, (bool, int)):
             return value
         if isinstance(value, dict):
-            return record_of(value, at, may_wait) if _ESCAPES.isdisjoint(value) else _escaped(value, at, may_wait)
+            return record_of(value, at, may_wait) if ESCAPES.isdisjoint(value) else _escaped(value, at, may_wait)
         if isinstance(value, list):
             return [value_of(it, f"{at}/{index}", may_wait) for index, it in enumerate(value)]
     except RecursionError:
@@ -149,7 +149,7 @@ def record_of(value: object, at: str, may_wait: bool = False) -> Dict[str, Value
 
 def _escaped(found: Dict[str, object], at: str, may_wait: bool) -> Value:
     if len(found) > 1:
-        key = sorted(_ESCAPES & found.keys())[0]
+        key = sorted(ESCAPES & found.keys())[0]
         raise Fault(400, "Escape", f"the key {key} stands alone in its object", below(at, key))
     if "__entity" in found:
         return uid(found, at)
@@ -158,8 +158,18 @@ def _escaped(found: Dict[str, object], at: str, may_wait: bool) -> Value:
     if "__unknown" in found:
         raise Fault(400, "Unknown", "what isn't known stands in no value but a context of /v1/ask", f"{at}/__unknown")
     if "__extn" in found:
-        raise Fault(400, "Extension", "values of extension types (ip, decimal, datetime, duration) aren't read from JSON yet", f"{at}/__extn")
+        return _extension(found["__extn"], f"{at}/__extn")
     raise Fault(400, "Expression", "expressions aren't read from JSON", f"{at}/__expr")
+
+
+def _extension(value: object, at: str) -> Extension:
+    """A value of an extension type, by the function that makes it of a text."""
+    found = fields(value, at, _CALL)
+    function, argument = (text(found[key], f"{at}/{key}") for key in ("fn", "arg"))
+    try:
+        return Extension(function, argument)
+    except CedarError as why:
+        raise Fault(400, "Extension", str(why), f"{at}/fn") from why
 
 
 def entity(value: object, at: str) -> Entity:

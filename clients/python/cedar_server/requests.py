@@ -1,20 +1,22 @@
 """What a request brings: its headers, its body, up to a limit, and its query."""
 
 import re
-from typing import AbstractSet, Dict, Optional
+from typing import AbstractSet, Dict, List, Optional, Tuple
 from urllib.parse import parse_qsl
 
 from starlette.requests import ClientDisconnect, Request
 
 from .faults import Fault
 
+Headers = List[Tuple[bytes, bytes]]
+
 _POSITION = re.compile(r"0|[1-9][0-9]{0,17}", re.ASCII)
 _SECONDS = re.compile(r"[0-9]{1,9}(\.[0-9]{1,9})?", re.ASCII)
 
 
-def header(request: Request, name: bytes) -> Optional[str]:
+def header(headers: Headers, name: bytes) -> Optional[str]:
     """The header of a name, in small letters; the first, where there are several."""
-    for key, value in request.scope["headers"]:
+    for key, value in headers:
         if key == name:
             return str(value, "latin-1")
     return None
@@ -28,14 +30,15 @@ async def body_of(request: Request, limit: int) -> bytes:
         if message["type"] == "http.disconnect":
             raise ClientDisconnect()
         body += message.get("body", b"")
-        if len(body) > limit:
-            raise _too_long(limit)
+        is_within(body, limit)
         if not message.get("more_body", False):
             return body
 
 
-def _too_long(limit: int) -> Fault:
-    return Fault(413, "TooLong", f"the body is longer than {limit} bytes")
+def is_within(body: bytes, limit: int) -> None:
+    """Raises Fault where a body is longer than that."""
+    if len(body) > limit:
+        raise Fault(413, "TooLong", f"the body is longer than {limit} bytes")
 
 
 def query_of(request: Request, allowed: AbstractSet[str]) -> Dict[str, str]:

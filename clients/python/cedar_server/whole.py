@@ -69,7 +69,7 @@ def _loaded(session: Commands, value: object) -> _Ids:
     _load_all(session, found.get("staticPolicies", {}), "/policies/staticPolicies", policies)
     for name, template in record(found.get("templates", _NOTHING), "/policies/templates").items():
         at = below("/policies/templates", name)
-        templates.add(name, _one(session, text(template, at), at, session.remove_static, "a template"), at)
+        templates.add(name, _one(session, template, at, session.remove_static, "a template"), at)
     items(found.get("templateLinks", []), "/policies/templateLinks", lambda it, at: _link(session, it, at, policies, templates))
     return policies
 
@@ -87,11 +87,13 @@ def _load_all(session: Commands, given: object, at: str, ids: _Ids) -> None:
         raise no("a text, a list or an object", given, at)
     for name, policy in record(given, at).items():
         where = below(at, name)
-        ids.add(name, _one(session, text(policy, where), where, session.remove_template, "a static policy"), where)
+        ids.add(name, _one(session, policy, where, session.remove_template, "a static policy"), where)
 
 
-def _one(session: Commands, policy: str, at: str, remove_other: Callable[[str], None], kind: str) -> str:
-    loaded = _of_text(session, policy, at)
+def _one(session: Commands, policy: object, at: str, remove_other: Callable[[str], None], kind: str) -> str:
+    if isinstance(policy, dict):
+        raise Fault(400, "JsonPolicy", "policies are read as texts of Cedar, and not as JSON", at)
+    loaded = _of_text(session, text(policy, at), at)
     if len(loaded) != 1:
         raise Fault(400, "NotOne", f"one policy is wanted, and these are {len(loaded)}", at)
     _want(remove_other, loaded[0], at, kind)

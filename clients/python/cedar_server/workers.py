@@ -1,9 +1,7 @@
 """The processes of a service: a supervisor that begins so many, and anew what ends or falls silent, each with a session of its own."""
 
-import asyncio
 import ctypes
 import gc
-import json
 import logging
 import os
 import resource
@@ -12,23 +10,21 @@ from dataclasses import dataclass, field
 from typing import Any, List, Optional
 
 from gunicorn.app.base import BaseApplication  # type: ignore[import]
-from uvicorn.protocols.http.httptools_impl import HttpToolsProtocol  # type: ignore[import]
 from uvicorn.workers import UvicornWorker  # type: ignore[import]
 
 from . import folder
 from .app import Limits, More, Service
 from .decisions import Decisions
-from .faults import Fault
 from .metrics import Metrics
 from .page import Page
 from .points import CopyPoint, FolderPoint, Point
+from .protocol import Protocol
+from .supervisor import Beat, Supervisor, begin_alone
 from .tokens import Doors
 
 _LOGGER = logging.getLogger("gunicorn.error")
-# A reload begins as many processes again before it ends the old ones, and some may be slow to end.
+# A reload begins as many processes again before it ends the old ones, and some may be slow to end. (Beyond that they count for themselves.)
 _ROWS = 4
-# So long a connection without a request is kept where the process ends.
-_GRACE = 1.0
 # (Linux's PR_SET_PDEATHSIG)
 _ON_END_OF_PARENT = 1
 _NOTHING: List[folder.Edit] = []
@@ -52,75 +48,19 @@ class Settings:
     silence: int = 120
 
 
-class Protocol(HttpToolsProtocol):  # type: ignore[misc]
-    """HTTP by a parser in C. It closes a connection on which no whole request comes in time; where the process ends, the first request of a
-    connection that was just taken is still answered."""
-
-    seconds = 30.0
-    _whole: Optional[asyncio.TimerHandle] = None
-    _is_last = False
-
-    def connection_made(self, transport: Any) -> None:
-        super().connection_made(transport)
-        self._wait()
-
-    def data_received(self, data: bytes) -> None:
-        super().data_received(data)
-        if self.cycle is not None and not self.cycle.response_complete and not self.cycle.more_body:
-            self._wait_no_more()
-        elif self._whole is None:
-            self._wait()
-
-    def connection_lost(self, exc: Any) -> None:
-        self._wait_no_more()
-        super().connection_lost(exc)
-
-    def on_headers_complete(self) -> None:
-        super().on_headers_complete()
-        if self._is_last and self.cycle is not None:
-            self.cycle.keep_alive = False
-
-    def on_response_complete(self) -> None:
-        # (from here on uvicorn waits, until more comes)
-        self._wait_no_more()
-        super().on_response_complete()
-
-    def shutdown(self) -> None:
-        if self.cycle is not None:
-            super().shutdown()
-        else:
-            self._is_last = True
-            self.loop.call_later(_GRACE, self._close_unused)
-
-    def _close_unused(self) -> None:
-        if self.cycle is None:
-            self.timeout_keep_alive_handler()
-
-    def _wait(self) -> None:
-        self._whole = self.loop.call_later(self.seconds, self._is_late)
-
-    def _wait_no_more(self) -> None:
-        waited, self._whole = self._whole, None
-        if waited is not None:
-            waited.cancel()
-
-    def _is_late(self) -> None:
-        if self.cycle is not None and not self.cycle.response_started and not self.transport.is_closing():
-            self.transport.write(_late(self.seconds))
-        self.timeout_keep_alive_handler()
-
-
-def _late(seconds: float) -> bytes:
-    """What is answered where a body doesn't come."""
-    said = json.dumps(Fault(408, "TooSlow", f"the body hasn't come in {seconds:g} seconds").body()).encode()
-    head = "HTTP/1.1 408 Request Timeout\r\ncontent-type: application/json\r\nconnection: close\r\n"
-    return head.encode() + b"content-length: %d\r\n\r\n%s" % (len(said), said)
-
-
 class Worker(UvicornWorker):  # type: ignore[misc]
     """A process of the service."""
 
     CONFIG_KWARGS = {"loop": "auto", "http": Protocol, "ws": "none", "lifespan": "on", "proxy_headers": False, "server_header": False}
+
+    tmp: Any
+
+    def __init__(self, *given: Any, **more: Any):
+        super().__init__(*given, **more)
+        self.tmp.close()
+        self.tmp = Beat(self.cfg)
+        # (as often as uvicorn looks, which is once a second)
+        self.config.timeout_notify = 0
 
 
 class Processes(BaseApplication):  # type: ignore[misc]
@@ -132,6 +72,9 @@ class Processes(BaseApplication):  # type: ignore[misc]
         self._metrics = Metrics(settings.processes * _ROWS)
         self._free = set(range(self._metrics.rows))
         super().__init__()
+
+    def run(self) -> None:
+        Supervisor(self).run()
 
     def load_config(self) -> None:
         settings, cfg = self._settings, self.cfg
@@ -146,7 +89,8 @@ class Processes(BaseApplication):  # type: ignore[misc]
         settings, worker = self._settings, self._worker
         Protocol.seconds = settings.limits.seconds
         more = More(None if settings.decisions is None else Decisions(settings.decisions), Page() if settings.page else None)
-        app = Service(self._point(), settings.doors, settings.limits, self._metrics, self._metrics.row(worker.row), more).app()
+        service = Service(self._point(), settings.doors, settings.limits, self._metrics, self._metrics.row(worker.row), more)
+        Protocol.at_once, app = service.at_once(), service.app()
         # (what stays isn't traced for garbage again and again)
         gc.freeze()
         return app
@@ -158,16 +102,18 @@ class Processes(BaseApplication):  # type: ignore[misc]
         return CopyPoint(settings.database, settings.log, settings.wait, self._worker.notify)
 
     def _before(self, _: Any, worker: Any) -> None:
-        worker.row = min(self._free)
-        self._free.remove(worker.row)
+        worker.row = min(self._free, default=None)
+        self._free.discard(worker.row)
 
     def _after(self, _: Any, worker: Any) -> None:
         self._worker = worker
+        begin_alone()
         _end_with_supervisor(worker.ppid)
 
     def _ended(self, _: Any, worker: Any) -> None:
-        self._metrics.leave(worker.row)
-        self._free.add(worker.row)
+        if worker.row is not None:
+            self._metrics.leave(worker.row)
+            self._free.add(worker.row)
 
     def _again(self, _: Any) -> None:
         if self._settings.folder is None:

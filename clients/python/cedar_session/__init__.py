@@ -29,7 +29,7 @@ from .errors import (
 )
 from .session import DEPTH_MAX, Session, SessionThread
 from .streams import Child, Connection
-from .values import UNKNOWN, Entity, Unknown, UnknownPart, quoted
+from .values import UNKNOWN, Entity, Extension, Unknown, UnknownPart, quoted
 
 __all__ = [
     "BODY_LIMIT",
@@ -48,6 +48,7 @@ __all__ = [
     "Decision",
     "Ended",
     "Entity",
+    "Extension",
     "NoCommand",
     "NoLibrary",
     "NoMemory",

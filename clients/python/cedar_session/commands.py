@@ -5,7 +5,7 @@ import re
 import threading
 from dataclasses import dataclass
 from types import MappingProxyType
-from typing import Callable, Dict, Iterable, List, Match, NoReturn, Optional, Tuple, TypeVar
+from typing import Callable, Dict, Iterable, List, Match, NoReturn, Optional, Tuple, TypeVar, cast
 
 from . import values
 from .errors import BadValue, Busy, Ended, NoCommand, NotCopied, NoValue, Refused, TooLong
@@ -32,6 +32,9 @@ _ID = re.compile(_QUOTED)
 _ERROR = re.compile(rf"({_QUOTED}):([A-Za-z]+)")
 _ESCAPED = {"n": "\n", "r": "\r", "t": "\t", "0": "\0"}
 
+# So many lines are kept that were read.
+_MOST_KNOWN = 256
+
 EMPTY: Context = MappingProxyType({})
 
 T = TypeVar("T")
@@ -44,6 +47,9 @@ class Decision(enum.Enum):
 
 
 _DECISIONS = {it.value: it for it in Decision}
+
+# What a line says to a question: the decision, and as they are written the lists of what must be a reason, of what may be, and of what errs.
+Line = Tuple[str, str, str, str]
 
 
 @dataclass
@@ -68,11 +74,20 @@ def ids_of(listed: str) -> Tuple[str, ...]:
     return tuple(map(_unquoted, _ID.findall(listed)))
 
 
-def _answer(parts: "Match[str]") -> Answer:
-    reasons = ids_of(parts["must"])
-    may = reasons if parts["may"] == parts["must"] else ids_of(parts["may"])
-    erring = {_unquoted(name): kind for name, kind in _ERROR.findall(parts["erring"])} if parts["erring"] != "[]" else {}
-    return Answer(_DECISIONS[parts["decision"]], reasons, may, erring)
+def errors_of(listed: str) -> Dict[str, str]:
+    """The ids that a list of errors in a line names, each with its kind."""
+    return {_unquoted(name): kind for name, kind in _ERROR.findall(listed)} if listed != "[]" else {}
+
+
+def answer_of(line: Line) -> Answer:
+    """The answer that a line has."""
+    decision, must, may, erring = line
+    reasons = ids_of(must)
+    return Answer(_DECISIONS[decision], reasons, reasons if may == must else ids_of(may), errors_of(erring))
+
+
+def _line_of(parts: "Match[str]") -> Line:
+    return cast(Line, parts.group("decision", "must", "may", "erring"))
 
 
 def encoded(body: str) -> bytes:
@@ -98,6 +113,8 @@ class Commands:
 
     def __init__(self) -> None:
         self._lock, self._is_busy = threading.RLock(), False
+        # (few lines answer most questions)
+        self._known: Dict[bytes, Line] = {}
 
     def _check(self) -> None:
         """Raises where this caller can't give a command."""
@@ -122,16 +139,17 @@ class Commands:
                 self._is_busy = False
 
     def _answered(self, verb: str, body: str) -> "Match[str]":
-        form = _FORMS.get(verb)
-        if form is None:
+        if verb not in _FORMS:
             raise NoCommand(verb)
         given = encoded(body)
         self._check()
-        return self._alone(self._matched, verb, given, form)
+        return self._alone(self._matched, verb, given)
 
-    def _matched(self, verb: str, body: bytes, form: "re.Pattern[str]") -> "Match[str]":
-        line = self._exchange(verb, body)
-        found = form.fullmatch(line[:-1].decode(errors="replace")) if line.endswith(b"\n") else None
+    def _matched(self, verb: str, body: bytes) -> "Match[str]":
+        return self._match(self._exchange(verb, body), verb)
+
+    def _match(self, line: bytes, verb: str) -> "Match[str]":
+        found = _FORMS[verb].fullmatch(line[:-1].decode(errors="replace")) if line.endswith(b"\n") else None
         if found is None:
             self._end()
             raise Ended(f"no line answers {verb}: {line[:80]!r}")
@@ -181,11 +199,30 @@ class Commands:
 
     def ask(self, *, principal: Part, action: Part, resource: Part, context: Context = EMPTY) -> Answer:
         """Asks a question. What isn't known is UNKNOWN, and has to be said; without a context there is an empty one."""
-        return _answer(self._done("ask", values.question_of(principal, action, resource, context)))
+        return answer_of(self.asked(values.question_of(principal, action, resource, context)))
+
+    def asked(self, question: str) -> Line:
+        """Asks a question by its text, which nobody else wrote a part of."""
+        given = encoded(question)
+        self._check()
+        return self._alone(self._line_to, given)
+
+    def _line_to(self, question: bytes) -> Line:
+        line = self._exchange("ask", question)
+        known = self._known.get(line)
+        if known is None:
+            found = self._match(line, "ask")
+            if found["word"] is not None:
+                raise Refused(found["word"])
+            known = _line_of(found)
+            if len(self._known) >= _MOST_KNOWN:
+                self._known.clear()
+            self._known[line] = known
+        return known
 
     def tell(self, /, **known: Value) -> Answer:
         """Tells values by the names of the open question's unknowns, which may be `principal`, `action`, `resource` and `context`."""
-        return _answer(self._done("tell", values.told(known)))
+        return answer_of(_line_of(self._done("tell", values.told(known))))
 
     def close(self) -> None:
         """Closes the session; a closed one stays closed."""

@@ -19,7 +19,7 @@ from collections import OrderedDict
 from time import monotonic
 from typing import BinaryIO, Callable, Optional, TypeVar
 
-from .commands import EDITS, EMPTY, LANGUAGE, QUESTIONS, WITHOUT_TYPES, Answer, Commands
+from .commands import EDITS, EMPTY, LANGUAGE, QUESTIONS, WITHOUT_TYPES, Answer, Commands, Line
 from .errors import CedarError, NotOpen, OtherThread
 from .held import Held, commands_of, read_frame
 from .log import Broken, Edit, KeyTaken, Log, LogError, Moved, NoLog, Place, Snapshot, rules_of
@@ -103,6 +103,10 @@ class Copy(Commands):
         self.come(position, age)
         return super().ask(principal=principal, action=action, resource=resource, context=context)
 
+    def asked(self, question: str) -> Line:
+        self._check()
+        return self._alone(self._asked, question)
+
     def come(self, position: int = 0, age: Optional[float] = None) -> None:
         """Follows, where this copy isn't as far as that position, or hasn't been at the log's end for so many seconds."""
         self._check()
@@ -134,6 +138,10 @@ class Copy(Commands):
     def _go_on(self) -> None:
         if self._why:
             raise Stopped(self._why)
+
+    def _asked(self, question: str) -> Line:
+        self._go_on()
+        return self.session.asked(question)
 
     def _exchange(self, verb: str, body: bytes) -> bytes:
         return self._given(verb, body, None, None)

@@ -9,6 +9,7 @@ from .errors import BadValue, NoValue
 _LEAST, _MOST = -(2**63), 2**63 - 1
 _PATH = re.compile(r"[A-Za-z_][A-Za-z0-9_]*(?:::[A-Za-z_][A-Za-z0-9_]*)*")
 _RESERVED = frozenset(("true", "false", "if", "then", "else", "in", "like", "has", "is", "__cedar"))
+_MAKERS = frozenset(("decimal", "ip", "datetime", "duration"))
 _ESCAPES = str.maketrans({'"': '\\"', "\\": "\\\\", "\n": "\\n", "\r": "\\r", "\t": "\\t", "\0": "\\0"})
 
 
@@ -25,7 +26,22 @@ class Entity:
     _name: str = field(default="", init=False, repr=False, compare=False)
 
     def __post_init__(self) -> None:
-        object.__setattr__(self, "_name", f"{_path(self.type)}::{quoted(self.id)}")
+        object.__setattr__(self, "_name", f"{path(self.type)}::{quoted(self.id)}")
+
+
+@dataclass(frozen=True)
+class Extension:
+    """A value of one of Cedar's extension types, by the function that makes it (`decimal`, `ip`, `datetime` or `duration`) of a text. A session
+    refuses it where the text is none of the type."""
+
+    function: str
+    text: str
+
+    def __post_init__(self) -> None:
+        if not isinstance(self.function, str):
+            raise NoValue(f"a {type(self.function).__name__} is no name of a function")
+        if self.function not in _MAKERS:
+            raise BadValue(f"no function that makes a value of a text is named {self.function!r}")
 
 
 @dataclass(frozen=True)
@@ -46,7 +62,7 @@ class UnknownPart:
 UNKNOWN = UnknownPart()
 
 # A list and a set are both the language's set; a record's keys are texts.
-Value = Union[bool, int, str, Entity, Unknown, List[Any], AbstractSet[Any], Dict[str, Any]]
+Value = Union[bool, int, str, Entity, Extension, Unknown, List[Any], AbstractSet[Any], Dict[str, Any]]
 Part = Union[Entity, UnknownPart]
 Context = Union[Mapping[str, Value], UnknownPart]
 
@@ -103,7 +119,7 @@ def _part(slot: str, part: Part) -> str:
         return ""
     if slot == "action":
         raise BadValue("the type of an action can't be stated")
-    return f"{slot}_type:{quoted(_path(part.type))}"
+    return f"{slot}_type:{quoted(path(part.type))}"
 
 
 def _entity(entity: Entity) -> str:
@@ -136,6 +152,8 @@ def _text(value: object, may_wait: bool) -> str:
         return quoted(value)
     if isinstance(value, Entity):
         return name_of(value)
+    if isinstance(value, Extension):
+        return f"{value.function}({quoted(value.text)})"
     if isinstance(value, Unknown) and may_wait:
         return f"unknown({quoted(value.name)})"
     if isinstance(value, (list, set, frozenset)):
@@ -149,7 +167,8 @@ def _record(record: Mapping[Any, Any], may_wait: bool) -> str:
     return "{%s}" % ",".join([f"{quoted(key)}:{_text(it, may_wait)}" for key, it in record.items()])
 
 
-def _path(name: str) -> str:
+def path(name: str) -> str:
+    """The name of a type of entities, where it is one."""
     if not isinstance(name, str):
         raise NoValue(f"a {type(name).__name__} is no type of entities")
     if not _PATH.fullmatch(name) or not _RESERVED.isdisjoint(name.split("::")):

@@ -1,8 +1,11 @@
-"""A PostgreSQL server of its own for tests, on loopback, in a temporary folder, by an account that isn't root's."""
+"""A PostgreSQL server of its own for tests, on loopback, in a temporary folder, by an account that isn't root's. Where TMPDIR says nothing that
+folder is in memory, if there is room."""
 
+import contextlib
 import glob
 import os
 import pwd
+import random
 import shutil
 import socket
 import subprocess
@@ -18,17 +21,34 @@ def tools():
     return path and os.path.dirname(path)
 
 
+def free_port(count=1):
+    """The first of so many ports that are free, below those that a system gives to clients. Those who share a folder CEDAR_PORTS get none twice."""
+    while True:
+        port = random.randrange(15_000, 30_000)
+        ports = range(port, port + count)
+        with contextlib.suppress(OSError), contextlib.ExitStack() as taken:
+            for it in ports:
+                taken.enter_context(socket.create_server(("127.0.0.1", it)))
+            for it in ports if "CEDAR_PORTS" in os.environ else ():
+                os.close(os.open(os.path.join(os.environ["CEDAR_PORTS"], f"port-{it}"), os.O_CREAT | os.O_EXCL))
+            return port
+
+
+def _has_room(path):
+    return os.access(path, os.W_OK) and shutil.disk_usage(path).free > 1 << 30
+
+
 class Server:
     """A server that is started, and ended and started again as a test wants."""
 
     def __init__(self):
         self.account = "postgres" if os.getuid() == 0 else pwd.getpwuid(os.getuid()).pw_name
-        self.room = tempfile.mkdtemp(prefix="cedar-postgres-", dir="/dev/shm" if os.access("/dev/shm", os.W_OK) else None)
+        in_memory = "TMPDIR" not in os.environ and _has_room("/dev/shm")
+        self.room = tempfile.mkdtemp(prefix="cedar-postgres-", dir="/dev/shm" if in_memory else None)
         if os.getuid() == 0:
             shutil.chown(self.room, self.account)
         self.data = os.path.join(self.room, "data")
-        with socket.create_server(("127.0.0.1", 0)) as it:
-            self.port = it.getsockname()[1]
+        self.port = free_port()
         self._run("initdb", "-D", self.data, "-U", "postgres", "-A", "trust", "--no-sync", "-E", "UTF8", "--locale=C")
         settings = ("listen_addresses = '127.0.0.1'", f"port = {self.port}", "unix_socket_directories = ''", "max_connections = 40", "shared_buffers = 32MB")
         with open(os.path.join(self.data, "postgresql.auto.conf"), "a", encoding="utf-8") as it:

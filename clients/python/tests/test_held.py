@@ -5,6 +5,7 @@ import os
 import unittest
 
 import cedar_session as cedar
+from cedar_session import values
 from cedar_session.commands import EDITS, QUESTIONS
 from cedar_session.held import Held, commands_of, frame_of, read_frame
 
@@ -102,6 +103,18 @@ class Snapshots(unittest.TestCase):
         for at, (verb, body) in enumerate(commands, 1):
             held.record(verb, body, lines[at - 1])
             self.goes_on(held, commands[at:], lines[at:])
+
+    def test_values_of_extension_types(self):
+        made = {"paid": cedar.Extension("decimal", "12.50"), "more": {"all": [cedar.Extension("ip", "10.0.0.1/8"), cedar.Extension("datetime", "2026-12-01")]}}
+        user, held = cedar.Entity("User", "a", made, (), {"until": cedar.Extension("duration", "1d")}), Held()
+        given([("put", values.listed([user]))], held)[0].close()
+        session, _ = given(commands_of(held.frames()))
+        self.addCleanup(session.close)
+        of_all = 'principal.more.all.containsAll([ip("10.0.0.1/8"), datetime("2026-12-01")])'
+        for clause in ('principal.paid == decimal("12.5")', of_all, 'principal.getTag("until") == duration("24h")'):
+            session.load(f"permit(principal, action, resource) when {{ {clause} }};")
+        answer = session.ask(principal=user, action=cedar.Entity("Action", "v"), resource=user)
+        self.assertEqual((len(answer.must), answer.erring), (3, {}))
 
     def test_what_is_added_again_stays(self):
         commands = [

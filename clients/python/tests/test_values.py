@@ -6,7 +6,7 @@ import time
 import unittest
 
 import cedar_session as cedar
-from cedar_session import UNKNOWN, Entity, Unknown, UnknownPart
+from cedar_session import UNKNOWN, Entity, Extension, Unknown, UnknownPart
 
 LETTERS = "\"\\\n\r\t\0',[]:{}()*?/;=ab 09_-é€😀\u2028\x85\xa0\x7f\x1f\u200b\ufeff\u202e\ufffd\ue000\U0010ffff\u0300"
 PIECES = ("//", "/*", "\\n", '\\"', "\\u{41}", "\\x41", "must=", "unknown(", '"}', "?principal", "true", "if", "context")
@@ -148,6 +148,22 @@ class Values(unittest.TestCase):
                 self.assertEqual(session.ask(principal=child, action=place, resource=parent if parent != place else child).must, ())
                 session.unlink(link)
                 session.remove_static(policy)
+
+    def test_extension_values_are_read_back(self):
+        cases = (("ip", "10.0.0.1/24", "10.0.0.1"), ("decimal", "-1.5", "1.5"), ("datetime", "2026-12-01", "2026-12-02"), ("duration", "1d2h", "1d"))
+        for function, text, other in cases:
+            given, compared = Extension(function, text), (f"{function}({spelled(it)})" for it in (text, other))
+            with self.loaded(f"permit(principal, action, resource) when {{ context.it == {it} }};" for it in compared) as session:
+                answer = session.ask(principal=UNKNOWN, action=UNKNOWN, resource=UNKNOWN, context={"it": given})
+                self.assertEqual((answer.must, answer.erring), (("policy0",), {}), function)
+                with self.assertRaisesRegex(cedar.Refused, "Evaluation"):
+                    session.put([Entity("U", "a", {"it": [Extension(function, '"')]})])
+        for function, kind in (("isIpv4", cedar.BadValue), ('ip("', cedar.BadValue), ("", cedar.BadValue), (1, cedar.NoValue), (["ip"], cedar.NoValue)):
+            with self.subTest(function=function), self.assertRaises(kind):
+                Extension(function, "10.0.0.1")
+        for text in (1, None, b"10.0.0.1"):
+            with self.subTest(text=text), cedar.Session() as session, self.assertRaises(cedar.NoValue):
+                session.tell(v=Extension("ip", text))
 
     def test_other_kinds_are_none(self):
         itself = []

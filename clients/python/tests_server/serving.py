@@ -5,14 +5,14 @@ import contextlib
 import http.client
 import json
 import os
-import random
 import shutil
 import signal
-import socket
 import subprocess
 import sys
 import tempfile
 import time
+
+from tests.postgres import free_port
 
 HERE = os.path.dirname(os.path.dirname(os.path.abspath(__file__)))
 ADMIN, ASKER = "an admin's token of the tests".replace(" ", "-"), "a token that asks, no more".replace(" ", "-")
@@ -21,16 +21,6 @@ VIEW, PHOTO = {"type": "Action", "id": "view"}, {"type": "Photo", "id": "1"}
 STAFF = 'permit(principal in Group::"staff", action == Action::"view", resource) when { context.hour < 18 };\n'
 ENTITIES = [{"uid": ALICE, "attrs": {"level": 3}, "parents": [{"type": "Group", "id": "staff"}]}]
 ANY = "permit(principal, action, resource);"
-
-
-def free_port(count=1):
-    """The first of so many ports that are free, below those that a system gives to clients."""
-    while True:
-        port = random.randrange(15_000, 30_000)
-        with contextlib.suppress(OSError), contextlib.ExitStack() as taken:
-            for it in range(count):
-                taken.enter_context(socket.create_server(("127.0.0.1", port + it)))
-            return port
 
 
 def question(principal=ALICE, **context):

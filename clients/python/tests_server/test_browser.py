@@ -11,7 +11,9 @@ from selenium.webdriver.common.keys import Keys
 
 from tests_server.serving import ADMIN, ASKER, Service
 
-WORDS = ("--headless=new", "--no-sandbox", "--disable-gpu", "--disable-dev-shm-usage", "--window-size=1400,1000", "--disable-background-networking")
+WORDS = ("--headless=new", "--no-sandbox", "--disable-gpu", "--disable-dev-shm-usage", "--window-size=1400,1000")
+# It speaks to this machine alone.
+WORDS += ("--disable-background-networking", "--disable-component-update", "--no-proxy-server", "--host-resolver-rules=MAP * ~NOTFOUND, EXCLUDE 127.0.0.1")
 
 
 class InBrowser(unittest.TestCase):
@@ -42,7 +44,7 @@ class InBrowser(unittest.TestCase):
         """The texts of all that there are at one moment, since the page draws them anew."""
         return self.browser.execute_script("return [...document.querySelectorAll(arguments[0])].map(it => it.textContent)", selector)
 
-    def becomes(self, read, wanted, seconds=20):
+    def becomes(self, read, wanted, seconds=60):
         until, found = time.monotonic() + seconds, None
         while time.monotonic() < until:
             found = read()

@@ -1,6 +1,7 @@
 """Tests of the service over a folder: what each call answers, what is refused and how, who is let in, and what slow and broken clients bring
 about."""
 
+import contextlib
 import json
 import os
 import signal
@@ -28,7 +29,8 @@ FAULTS = (
     ("POST", "/v1/ask", "[]", {}, 400, "WrongType", ""),
     ("POST", "/v1/ask", "[" * 50_000, {}, 400, "TooDeep", ""),
     ("POST", "/v1/ask", question(hour=0.5), {}, 400, "Float", "/context/hour"),
-    ("POST", "/v1/ask", question(x={"__extn": {"fn": "ip", "arg": "1.1.1.1"}}), {}, 400, "Extension", "/context/x/__extn"),
+    ("POST", "/v1/ask", question(x={"__extn": {"fn": "ipv4", "arg": "1.1.1.1"}}), {}, 400, "Extension", "/context/x/__extn/fn"),
+    ("POST", "/v1/ask", question(x={"__extn": {"fn": "ip", "arg": "1.1.1.256"}}), {}, 422, "Refused", ""),
     ("POST", "/v1/ask", question(**{"x": json.loads("[" * 200 + "]" * 200), "y": json.loads("[" * 260 + "]" * 260)}), {}, 422, "Refused", ""),
     ("POST", "/v1/ask?position=x", question(), {}, 400, "NoPosition", "?position"),
     ("POST", "/v1/ask?position=-1", question(), {}, 400, "NoPosition", "?position"),
@@ -101,8 +103,10 @@ class Answers(OverFolder):
 
     def test_a_request_keeps_its_name(self):
         caller = self.caller()
-        for path, body in ((EVALUATION, evaluation(hour=9)), (EVALUATION, "{"), ("/nowhere", "")):
+        for path, body in ((EVALUATION, evaluation(hour=9)), (EVALUATION, "{"), ("/nowhere", ""), ("/v1/ask?age=1", question(hour=9))):
             self.assertEqual(caller.post(path, body, X_Request_ID="it's me").headers["x-request-id"], "it's me")
+            for name in ("a\tb", "\x80", "x" * 201):
+                self.assertIsNone(caller.post(path, body, X_Request_ID=name).headers["x-request-id"], (path, name))
         self.assertIsNone(caller.ask(hour=9).headers["x-request-id"])
 
 
@@ -222,13 +226,25 @@ class FullLog(OverFolder):
             self.assertEqual(self.caller().post(path, body).fault, (503, "NoDecisionLog", ""))
 
 
+class Limits(OverFolder):
+    more = ("--limit", "300")
+
+    def test_longer_bodies(self):
+        caller = self.caller()
+        for path, body in (("/v1/ask", question(hour=9)), (EVALUATION, evaluation(hour=9))):
+            longest = json.dumps(body).ljust(300)
+            for more in ("", "?position=0"):
+                self.assertEqual(caller.post(path + more, longest).status, 200, path + more)
+                self.assertEqual(caller.post(path + more, longest + " ").fault, (413, "TooLong", ""), path + more)
+
+
 class Clients(OverFolder):
     """Slow clients, and those that go."""
 
-    more = ("--seconds", "2")
+    more = ("--seconds", "4")
 
-    def raw(self):
-        connection = socket.create_connection(("127.0.0.1", self.service.port), 20)
+    def raw(self, seconds=20):
+        connection = socket.create_connection(("127.0.0.1", self.service.port), seconds)
         self.addCleanup(connection.close)
         return connection
 
@@ -237,9 +253,8 @@ class Clients(OverFolder):
         return b"POST /v1/ask HTTP/1.1\r\nHost: x\r\nContent-Length: %d\r\n\r\n%s" % (len(body) if length is None else length, body)
 
     def is_answered(self, connection):
-        data = connection.recv(65536)
-        self.assertIn(b"HTTP/1.1 200 ", data)
-        self.assertIn(b'"decision":"allow"', data)
+        (body,) = self.answers(connection, 1)
+        self.assertIn(b'"decision":"allow"', body)
 
     def test_a_request_in_two_pieces(self):
         """Wherever it is cut."""
@@ -252,6 +267,87 @@ class Clients(OverFolder):
             connection.sendall(whole[at:])
             self.is_answered(connection)
 
+    def answers(self, connection, count):
+        """The bodies of so many answers."""
+        data = b""
+        # (a head and its body may come one after the other)
+        while data.count(b"HTTP/1.1 200 ") < count or not data.endswith(b"}"):
+            more = connection.recv(65536)
+            if not more:
+                break
+            data += more
+        return [it.partition(b"\r\n\r\n")[2] for it in data.split(b"HTTP/1.1 ")[1:]]
+
+    def test_requests_in_one_piece(self):
+        """Each is answered in its turn, however they are cut."""
+        asks = [self.request(json.dumps(question(hour=hour)).encode()) for hour in (9, 18)]
+        health = b"GET /healthz HTTP/1.1\r\nHost: x\r\n\r\n"
+        other = asks[0].replace(b"/v1/ask", b"/v1/ask?age=0")
+        told = {asks[0]: b'"allow"', asks[1]: b'"deny"', health: b'"serves"', other: b'"allow"'}
+        for order in ((0, 1, 0), (0, 2, 1), (2, 0, 2), (3, 1, 0), (1, 3, 3, 2, 0), (0,) * 20 + (1,) * 20):
+            requests = [(*asks, health, other)[it] for it in order]
+            whole = b"".join(requests)
+            for cut in (0, len(requests[0]) // 2, len(requests[0]), len(requests[0]) + 30, len(whole) - 5):
+                connection = self.raw()
+                connection.sendall(whole[:cut])
+                time.sleep(0.02 * (cut > 0))
+                connection.sendall(whole[cut:])
+                found = self.answers(connection, len(requests))
+                self.assertEqual([told[given] in it for given, it in zip(requests, found)], [True] * len(requests), (order, cut, found))
+
+    def test_the_last_request(self):
+        for head in (b"Connection: close\r\n", b"connection: Close\r\n"):
+            connection = self.raw()
+            connection.sendall(self.request(json.dumps(question(hour=9)).encode()).replace(b"Host:", head + b"Host:"))
+            data = b""
+            while True:
+                more = connection.recv(65536)
+                if not more:
+                    break
+                data += more
+            self.assertIn(b'"decision":"allow"', data)
+            self.assertIn(b"connection: close\r\n", data)
+        connection = self.raw()
+        connection.sendall(self.request(json.dumps(question(hour=9)).encode()).replace(b"HTTP/1.1", b"HTTP/1.0"))
+        self.assertIn(b'"allow"', self.answers(connection, 1)[0])
+        self.assertEqual(connection.recv(65536), b"")
+
+    def test_lines_between_requests(self):
+        """They keep no connection open."""
+        connection, since = self.raw(60), time.monotonic()
+        connection.sendall(self.request(json.dumps(question(hour=9)).encode()))
+        self.is_answered(connection)
+        connection.sendall(b"\r\n")
+        self.assertEqual(connection.recv(65536), b"")
+        self.assertLess(time.monotonic() - since, 40)
+
+    def test_expectations(self):
+        connection = self.raw()
+        body = json.dumps(question(hour=9)).encode()
+        head, _, _ = self.request(body).partition(b"\r\n\r\n")
+        connection.sendall(head + b"\r\nExpect: 100-continue\r\n\r\n")
+        self.assertTrue(connection.recv(65536).startswith(b"HTTP/1.1 100 "))
+        connection.sendall(body)
+        self.is_answered(connection)
+
+    def test_a_client_that_does_not_read(self):
+        """It asks on, until neither side has room for more, and others are answered."""
+        connection = self.raw(3)
+        with self.assertRaises(OSError):
+            while True:
+                connection.sendall(self.request(json.dumps(question(hour=9)).encode()) * 50)
+        for _ in range(20):
+            self.assertEqual(self.caller().ask(hour=9).status, 200)
+        found, connection = 0, connection
+        connection.settimeout(5)
+        with contextlib.suppress(OSError):
+            while found < 100_000:
+                data = connection.recv(1 << 20)
+                if not data:
+                    break
+                found += data.count(b'"decision":"allow"')
+        self.assertGreater(found, 100)
+
     def test_a_body_that_does_not_come(self):
         connection = self.raw()
         connection.sendall(self.request(b'{"principal": ', 500))
@@ -261,10 +357,10 @@ class Clients(OverFolder):
 
     def test_a_head_that_does_not_come(self):
         for begun in (b"", b"POST /v1/ask HT", b"POST /v1/ask HTTP/1.1\r\nHost: x\r\n"):
-            connection, since = self.raw(), time.monotonic()
+            connection, since = self.raw(60), time.monotonic()
             connection.sendall(begun)
             self.assertEqual(connection.recv(1000), b"")
-            self.assertLess(time.monotonic() - since, 15)
+            self.assertLess(time.monotonic() - since, 25)
 
     def test_a_head_byte_by_byte(self):
         connection, since = self.raw(), time.monotonic()
@@ -272,7 +368,7 @@ class Clients(OverFolder):
             for byte in self.request(b"{}") * 10:
                 connection.sendall(bytes([byte]))
                 time.sleep(0.1)
-                if time.monotonic() - since > 15:
+                if time.monotonic() - since > 25:
                     return
         self.assertEqual(self.caller().ask(hour=9).status, 200)
 
@@ -311,7 +407,7 @@ class Processes(unittest.TestCase):
     def setUp(self):
         self.service = Service()
         self.addCleanup(self.service.remove)
-        self.service.words += ["--processes", "2"]
+        self.service.words += ["--processes", "2", "--silence", "10"]
         self.service.start()
 
     def decision(self, **context):
@@ -338,6 +434,46 @@ class Processes(unittest.TestCase):
         self.service.wait()
         self.assertEqual(self.decision(), "deny")
 
+    def test_many_hang_ups(self):
+        for _ in range(40):
+            self.service.signal(signal.SIGHUP)
+            time.sleep(0.05)
+        self.becomes("deny")
+
+    def test_one_that_falls_silent(self):
+        silent, *_ = self.service.workers()
+        os.kill(silent, signal.SIGSTOP)
+        until = time.monotonic() + 60
+        while silent in self.service.workers() and time.monotonic() < until:
+            time.sleep(0.1)
+        self.assertNotIn(silent, self.service.workers())
+        self.assertIn(f"WORKER TIMEOUT (pid:{silent})", self.service.log())
+        self.assertEqual(self.service.log().count("WORKER TIMEOUT"), 1)
+        self.becomes("deny")
+
+    def test_those_that_end_while_they_begin(self):
+        """Each is missed, and another begins in its place."""
+        until = time.monotonic() + 3
+        while time.monotonic() < until:
+            for pid in self.service.workers():
+                with contextlib.suppress(ProcessLookupError):
+                    os.kill(pid, signal.SIGKILL)
+        until = time.monotonic() + 30
+        while len(self.service.workers()) < 2 and time.monotonic() < until:
+            time.sleep(0.05)
+        self.assertEqual(len(self.service.workers()), 2)
+        self.becomes("deny")
+
+    def test_the_end_of_one_that_begins(self):
+        """It is told to end as soon as it is there."""
+        before = set(self.service.workers())
+        for pid in before:
+            os.kill(pid, signal.SIGKILL)
+        while not set(self.service.workers()) - before:
+            pass
+        self.service.signal(signal.SIGTERM)
+        self.assertEqual(self.service.process.wait(20), 0)
+
     def test_all_end_where_the_supervisor_is_killed(self):
         until = time.monotonic() + 30
         while len(self.service.workers()) < 2 and time.monotonic() < until:
@@ -359,8 +495,11 @@ class Processes(unittest.TestCase):
         # (what can't be read isn't taken, and the service says so)
         self.service.write("more.cedar", "permit(")
         self.service.signal(signal.SIGHUP)
-        self.becomes("allow")
+        until = time.monotonic() + 30
+        while "more.cedar: Refused Text" not in self.service.log() and time.monotonic() < until:
+            time.sleep(0.05)
         self.assertIn("more.cedar: Refused Text", self.service.log())
+        self.becomes("allow")
 
     def test_none_is_dropped_where_the_folder_is_read_again(self):
         ended, failed = threading.Event(), []

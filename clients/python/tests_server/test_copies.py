@@ -110,7 +110,7 @@ class Edits(WithLog):
         ran = made("--database", database, "--log", "made", "--create", room.folder)
         self.assertEqual((ran.returncode, ran.stdout), (0, "the log 'made' stands at 2\n"), ran.stderr)
         self.assertNotEqual(made("--database", database, "--log", "made", "--create", room.folder).returncode, 0)
-        for words in ((), (room.folder, "--create"), (room.folder, "--database", database), ("--processes", "0", room.folder)):
+        for words in ((), (room.folder, "--create"), (room.folder, "--database", database), ("--processes", "0", room.folder), ("--silence", "9", room.folder)):
             self.assertEqual(made(*words).returncode, 2, words)
         service = Service("--database", database, "--log", "made")
         self.addCleanup(service.remove)

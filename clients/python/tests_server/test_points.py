@@ -1,12 +1,17 @@
 """Tests of what answers in a process, without one."""
 
+import time
 import unittest
+from unittest import mock
 
-from cedar_session import Decision, Entity, Refused
+from gunicorn.config import Config
+
+from cedar_session import Entity, Refused
 
 from cedar_server.points import FolderPoint
 from cedar_server.questions import Question
 from cedar_server.remembered import Remembered
+from cedar_server.supervisor import Beat
 
 
 class Folders(unittest.TestCase):
@@ -18,7 +23,7 @@ class Folders(unittest.TestCase):
         self.addCleanup(point.close)
         self.assertEqual(len(beats), 2)
         asked = Question(Entity("User", "a"), Entity("Action", "v"), Entity("R", "r"), {})
-        self.assertEqual((point.ask(asked).decision, len(beats)), (Decision.ALLOW, 2))
+        self.assertEqual((point.asked(asked.text()), len(beats)), (("allow", '["policy0"]', '["policy0"]', "[]"), 2))
 
     def test_no_process_serves_what_lacks_an_edit(self):
         with self.assertRaises(Refused):
@@ -46,6 +51,19 @@ class Remembers(unittest.TestCase):
             remembered.of("ask", body, 0, lambda it: asked.append(it) or ("deny", "", ""))
         self.assertEqual(len(asked), 10_003)
         self.assertLess(len(remembered._given), 5_000)
+
+
+class Beats(unittest.TestCase):
+    def test_a_clock_that_is_set_makes_none_silent(self):
+        beat = Beat(Config())
+        self.addCleanup(beat.close)
+        for told, wanted in ((0, 30), (30, 0)):
+            clock = time.monotonic() + 30
+            with mock.patch("time.monotonic", lambda: clock - 30 + told):
+                beat.notify()
+            for day in (0.0, 2e9, -1e6):
+                with mock.patch("time.monotonic", lambda: clock), mock.patch("time.time", lambda: day):
+                    self.assertAlmostEqual(time.time() - beat.last_update(), wanted, 3)
 
 
 if __name__ == "__main__":

@@ -40,6 +40,16 @@ class Three(unittest.TestCase):
         ran = subprocess.run(["pgrep", "-P", str(self.process.pid), "-f", f"127.0.0.1:{port}"], capture_output=True, text=True)
         return int(ran.stdout)
 
+    def has_ended(self, pid, seconds=60):
+        until = time.monotonic() + seconds
+        while time.monotonic() < until:
+            with open(f"/proc/{pid}/stat", encoding="ascii") as it:
+                # (its parent waits for it at the end)
+                if it.read().rpartition(")")[2].split()[0] == "Z":
+                    return
+            time.sleep(0.05)
+        self.fail(f"{pid} goes on")
+
     def test_they_serve_as_one(self):
         caller = self.caller
         self.assertEqual(caller.ask(hour=9).said["decision"], "allow")
@@ -52,8 +62,9 @@ class Three(unittest.TestCase):
             processes = {line.split('"process":')[1] for line in it}
         self.assertGreater(len(processes), 1)
         # Where one ends the others go on: whoever asks again is answered.
-        os.kill(self.pid_of(self.port + 1), signal.SIGTERM)
-        time.sleep(1)
+        pid = self.pid_of(self.port + 1)
+        os.kill(pid, signal.SIGTERM)
+        self.has_ended(pid)
         for _ in range(30):
             self.assertEqual(caller.ask(ALICE, hour=9).status, 200)
         self.assertEqual(caller.post("/v1/policies", 'forbid(principal == User::"bob", action, resource);').status, 200)

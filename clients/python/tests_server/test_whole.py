@@ -24,6 +24,15 @@ def link(own, template="t", **slots):
     return {"templateId": template, "newId": own, "values": {f"?{slot}": it for slot, it in slots.items()}}
 
 
+def extension(function, argument):
+    return {"__extn": {"fn": function, "arg": argument}}
+
+
+PAID = [{"uid": ALICE, "attrs": {"paid": extension("decimal", "12.50")}, "tags": {"until": extension("datetime", "2026-12-01")}, "parents": []}]
+INSIDE = 'permit(principal, action, resource) when { context.from.isInRange(ip("10.0.0.0/8")) };'
+MORE = 'permit(principal, action, resource) when { principal.paid.greaterThan(decimal("12.49")) };'
+LATER = 'permit(principal, action, resource) when { principal.getTag("until").offset(context.grace) > datetime("2026-12-02") };'
+
 # A call, with the decision, the reasons and those that err.
 ANSWERS = (
     (call({}), "deny", [], {}),
@@ -46,6 +55,14 @@ ANSWERS = (
         {},
     ),
 )
+# Values of extension types.
+ANSWERS += (
+    (call({"staticPolicies": INSIDE}, context={"from": extension("ip", "10.1.2.3")}), "allow", ["policy0"], {}),
+    (call({"staticPolicies": INSIDE}, context={"from": extension("ip", "11.1.2.3")}), "deny", [], {}),
+    (call({"staticPolicies": MORE}, entities=PAID), "allow", ["policy0"], {}),
+    (call({"staticPolicies": LATER}, entities=PAID, context={"grace": extension("duration", "1d1ms")}), "allow", ["policy0"], {}),
+    (call({"staticPolicies": LATER}, entities=PAID, context={"grace": extension("duration", "1d")}), "deny", [], {}),
+)
 ALICES = {"principal": ALICE, "resource": PHOTO}
 P = "/policies"
 FAULTS = (
@@ -61,7 +78,10 @@ FAULTS = (
     (call({"staticPolicies": {"a": ANY + NONE}}), "NotOne", f"{P}/staticPolicies/a"),
     (call({"staticPolicies": {"a": ""}}), "NotOne", f"{P}/staticPolicies/a"),
     (call({"staticPolicies": {"a": TEMPLATE}}), "OtherKind", f"{P}/staticPolicies/a"),
-    (call({"staticPolicies": {"a": {"effect": "permit"}}}), "WrongType", f"{P}/staticPolicies/a"),
+    (call({"staticPolicies": {"a": {"effect": "permit"}}}), "JsonPolicy", f"{P}/staticPolicies/a"),
+    (call({"staticPolicies": [ANY, {"effect": "permit"}]}), "JsonPolicy", f"{P}/staticPolicies/policy1"),
+    (call({"staticPolicies": {"a": 1}}), "WrongType", f"{P}/staticPolicies/a"),
+    (call({"templates": {"t": {"effect": "permit"}}}), "JsonPolicy", f"{P}/templates/t"),
     (call({"templates": {"t": ANY}}), "OtherKind", f"{P}/templates/t"),
     (call({"templateLinks": [link("l", **ALICES)]}), "NoTemplate", f"{P}/templateLinks/0/templateId"),
     (call({"templates": {"t": TEMPLATE}, "templateLinks": [link("l", principal=ALICE)]}), "Refused", f"{P}/templateLinks/0"),
@@ -71,6 +91,9 @@ FAULTS = (
     (call({}, entities=[{"uid": 1}]), "WrongType", "/entities/0/uid"),
     (call({}, entities=[{"uid": ALICE, "parents": [ALICE]}]), "Refused", "/entities"),
     (call({}, context={"a": None}), "WrongType", "/context/a"),
+    (call({}, context={"a": extension("ipv4", "10.0.0.1")}), "Extension", "/context/a/__extn/fn"),
+    (call({}, context={"a": extension("ip", "10.0.0.256")}), "Refused", ""),
+    (call({}, entities=[{"uid": ALICE, "attrs": {"paid": extension("decimal", "1.23456")}}]), "Refused", "/entities"),
 )
 
 
