@@ -40,7 +40,7 @@ use Rattle.cedar_substitution.proofs.Lookups.{key_cmp, same_key, looked_up, keep
 use Rattle.cedar_held.specs.Entities.{named_all}
 use Rattle.cedar_held.specs.Fields.{unrestricted, deeper, as_entries}
 use Rattle.cedar_held.specs.Lent.{fields_in}
-use Rattle.cedar_held.specs.Questions.{StandsAt, LendsContext}
+use Rattle.cedar_telling.specs.Questions.{StandsAt, LendsContext}
 use Rattle.cedar_telling.specs.Tells.{told_in}
 use Rattle.cedar_telling.specs.TellSteps.{IsGivenRestricted, some_misfit, with_attribute, with_attributes}
 use Rattle.cedar_telling.specs.UnknownNames.{stands_in_some}

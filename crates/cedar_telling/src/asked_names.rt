@@ -2,13 +2,12 @@
 ghost use Rattle.std.specs.Prelude.{◌≡◌, ◌&&◌, ◌||◌, ◌∷◌, [], ◌++◌, not, is_some, IfOk, OnOk, List, option_map, map};
 ghost use Rattle.std.specs.FinMap as finite;
 ghost use Rattle.std.specs.List.{filter};
-ghost use Rattle.std.specs.Option.{unwrap_or};
 ghost use Rattle.cedar_grammar.specs.Build.{trees};
-ghost use Rattle.cedar_held.specs.Questions.{part_asked, question_of, given_context};
+ghost use Rattle.cedar_requests.specs.Parts.{part_of};
+ghost use Rattle.cedar_telling.specs.Questions.{context_written, question_of};
 ghost use Rattle.cedar_language.specs.Uid.{Text};
 ghost use Rattle.cedar_restricted.specs.Views.{restricted_tree};
 ghost use Rattle.cedar_trees.specs.Bare.{bare, bare_entries};
-ghost use Rattle.cedar_world.specs.Asking.{NoContext};
 ghost use Rattle.cedar_world.specs.Orders.{text_eq};
 ghost use Rattle.cedar_world.specs.Question as world;
 ghost use Rattle.cedar_telling.specs.AskedNames.{has_name, is_listed, AddsNames, AreAskedBy, AreUntoldOf};
@@ -16,11 +15,12 @@ ghost use Rattle.cedar_telling.specs.TellSteps.{IsGivenRestricted};
 ghost use Rattle.cedar_telling.specs.Tells.{told_in};
 ghost use Rattle.cedar_telling.specs.UnknownNames.{stands_in, stands_in_call, stands_in_some};
 
+use crate::questions::{AskBody, ask_body};
 use crate::telling::is_told;
 use crate::unknowns::{is_unknown, name_of};
 use crate::wanted::context_entries;
-use cedar_held::{AskBody, AskedPart, ask_body};
 use cedar_names::names::Name;
+use cedar_requests::EntityUIDEntry;
 use cedar_restricted::restricted::RestrictedExpr;
 use cedar_trees::expr::{Expr, ExprKind};
 use cedar_values::values::Value;
@@ -99,21 +99,21 @@ fn push_entries<'e>(
 // Appends the name of a variable for which nothing is given.
 fn push_missing<'e>(
     names: &mut Vec<&'e str>,
-    part: &AskedPart<'_>,
+    part: &EntityUIDEntry,
     variable: &'e str,
 ) -> Result<(), AllocError>
-    ensures { OnOk result (AddsNames (λ test. world.is_missing (part_asked part.now) && test variable.now) (map (λ n. n.now) names.old.items) (map (λ n. n.now) names.new.items)) }
+    ensures { OnOk result (AddsNames (λ test. world.is_missing (part_of part.now) && test variable.now) (map (λ n. n.now) names.old.items) (map (λ n. n.now) names.new.items)) }
 {
     match part {
-        AskedPart::Given(_) => Ok(()),
-        AskedPart::Missing(_) => push_name(names, variable),
+        EntityUIDEntry::Known { euid: _, loc: _ } => Ok(()),
+        EntityUIDEntry::Unknown { ty: _, loc: _ } => push_name(names, variable),
     }
 }
 
 // Appends the names of the context's unknowns: itself, where none is given.
 fn push_context<'e>(names: &mut Vec<&'e str>, context: Option<&'e Expr>) -> Result<(), AllocError>
     requires { IsGivenRestricted context }
-    ensures { OnOk result ((n : Text) → has_name (map (λ n. n.now) names.new.items) n ≡ (has_name (map (λ n. n.now) names.old.items) n || world.has_name (unwrap_or (option_map given_context context.entry) NoContext) n)) }
+    ensures { OnOk result ((n : Text) → has_name (map (λ n. n.now) names.new.items) n ≡ (has_name (map (λ n. n.now) names.old.items) n || world.has_name (context_written context.entry) n)) }
 {
     match context_entries(context) {
         None => push_name(names, "context"),
