@@ -6,8 +6,8 @@ mod asked_names;
 mod bodies;
 mod joining;
 mod questions;
+mod stated_types;
 mod telling;
-mod types;
 mod unknowns;
 mod wanted;
 

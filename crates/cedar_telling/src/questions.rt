@@ -9,7 +9,7 @@ ghost use Rattle.cedar_held.specs.Lent.{fields_in, tree_in};
 ghost use Rattle.cedar_telling.specs.declared.questions.QuestionKey.{QuestionKey};
 ghost use Rattle.cedar_telling.specs.Questions.{key_spelled, question_of, given_context, LendsEach, IsRecordOf, LendsFrom, LendsContext};
 
-use crate::types::type_if_given;
+use crate::stated_types::type_if_given;
 use cedar_held::{entity_if_given, entries_of};
 use cedar_literals::uids::{EntityType, EntityUID};
 use cedar_names::comparing::is_same;
