@@ -235,7 +235,12 @@ module _ (by : Setting) (table : Table) (depth : ℕ) (tree : Tree) (b : AskBody
   unasked r h = absurd h
 
   pub is_asked : QuestionsAreAsked → (request : Request) (made : Option Context)
-      → request_parts request ≡ record { principal = part_of b.principal; action = part_of b.action; resource = part_of b.resource; context = option_map context_part made }
+      → request_parts request ≡ record {
+        principal = part_of b.principal;
+        action = part_of b.action;
+        resource = part_of b.resource;
+        context = option_map context_part made;
+      }
       → EvaluatesContext by table depth b.context (Ok made) → AsksBody by table depth tree (Ok request)
   is_asked law request made parts taken = (
     question_of b,

@@ -9,4 +9,5 @@ use Rattle.cedar_telling.proofs.asked_names.push_missing.Goals as goal
 pub returns-in-Unknown : goal.returns-in-Unknown
 returns-in-Unknown c = on_ok_weaker c.push_name.result (λ adds test.
     adds test
-    ∙ ap (λ b. list_any test (map (λ n. n.now) c.args.names.now.items) || (b && test c.args.variable.now)) (sym (ap (λ p. is_missing (part_of p)) c.in-Unknown.is))) c.push_name.ensures
+    ∙ ap (λ b. list_any test (map (λ n. n.now) c.args.names.now.items) || (b && test c.args.variable.now))
+    (sym (ap (λ p. is_missing (part_of p)) c.in-Unknown.is))) c.push_name.ensures
