@@ -25,7 +25,8 @@ is_listed names n = contains_by (λ k. text_cmp n k.now) names
 
 -- names were appended: a test passes some name now if it passed one before, or passes one of these
 abbrev pub AddsNames : ((Text → Bool) → Bool) → Vec (Bor Text) Global → Vec (Bor Text) Global → Type 0
-AddsNames passes_some old new = (test : Text → Bool) → list_any test (map (λ n. n.now) new.items) ≡ (list_any test (map (λ n. n.now) old.items) || passes_some test)
+AddsNames passes_some old new =
+    (test : Text → Bool) → list_any test (map (λ n. n.now) new.items) ≡ (list_any test (map (λ n. n.now) old.items) || passes_some test)
 
 -- the names are those for which the question of a body wants values
 abbrev pub AreAskedBy : Tree → List Text → Type 0
