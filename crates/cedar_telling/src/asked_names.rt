@@ -1,5 +1,5 @@
 // The names for which a question wants values.
-ghost use Rattle.std.specs.Prelude.{◌≡◌, ◌&&◌, ◌||◌, ◌∷◌, [], ◌++◌, not, is_some, IfOk, OnOk, List, option_map, map};
+ghost use Rattle.std.specs.Prelude.{◌≡◌, ◌&&◌, ◌||◌, ◌∷◌, [], ◌++◌, not, is_some, IfOk, OnOk, List, map};
 ghost use Rattle.std.specs.FinMap as finite;
 ghost use Rattle.std.specs.List.{filter};
 ghost use Rattle.cedar_grammar.specs.Build.{trees};

@@ -1,5 +1,4 @@
 // The request that a body states.
-ghost use Rattle.std.specs.Prelude.{◌≡◌, IfOk};
 ghost use Rattle.cedar_held.specs.Fields.{Serves};
 ghost use Rattle.cedar_extensions.specs.Table.{as_table};
 ghost use Rattle.cedar_restricted.specs.Views.{restricted_tree};
