@@ -1,5 +1,4 @@
 pub mod Keyed
-pub mod Types
 pub mod ItemByItem
 pub mod Naming
 pub mod Wholes
@@ -12,7 +11,6 @@ pub mod Reading
 pub mod Sets
 pub mod Versions
 pub mod Shown
-mod Asked
 mod EditedWorlds
 mod Fitting
 pub mod PolicyWorlds

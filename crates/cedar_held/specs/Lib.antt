@@ -5,7 +5,6 @@ pub mod PolicyWorlds
 pub mod LoadWorlds
 pub mod Lent
 pub mod LinkBodies
-pub mod Questions
 pub mod Entities
 pub mod Reading
 pub mod BodyRefusals

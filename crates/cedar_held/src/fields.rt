@@ -1,16 +1,15 @@
 // The fields of a record, by their keys.
-ghost use Rattle.std.specs.Prelude.{◌≡◌, IfOk, map, option_map};
+ghost use Rattle.std.specs.Prelude.{◌≡◌, map, option_map};
 ghost use Rattle.std.specs.Rc.{rc_str_bytes};
 ghost use Rattle.cedar_world.specs.Orders.{text_eq};
 ghost use Rattle.cedar_trees.specs.Bare.{bare};
 ghost use Rattle.cedar_world.specs.Bodies as world;
 ghost use Rattle.cedar_held.specs.Lent.{fields_in, tree_in};
 
-use crate::literals::{entity_of, entries_of, shared_entity_of, string_of, type_named};
-use cedar_literals::uids::{EntityType, EntityUID};
+use crate::literals::{entity_of, entries_of, shared_entity_of, string_of};
+use cedar_literals::uids::EntityUID;
 use cedar_names::comparing;
 use cedar_trees::expr::Expr;
-use std::alloc::{AllocError, Global};
 use std::collections::BTreeMap;
 use std::rc::{Rc, RcStr};
 
@@ -70,29 +69,13 @@ pub fn required_entity<'e>(entries: &'e BTreeMap<RcStr, Expr>, key: &str) -> Opt
     entity_of(field(entries, key)?)
 }
 
-// The entity, where something is given; none where that is no entity.
+/// The entity, where something is given; none where that is no entity.
 pub fn entity_if_given(value: Option<&Expr>) -> Option<Option<&Rc<EntityUID>>>
     ensures { option_map (option_map (λ uid. uid.now.value)) result ≡ world.if_there world.entity_of (tree_in value.entry) }
 {
     match value {
         None => Some(None),
         Some(value) => Some(Some(shared_entity_of(value)?)),
-    }
-}
-
-// The type that is named, where something is given; none where that names no type.
-pub fn type_if_given(
-    alloc: Global,
-    value: Option<&Expr>,
-) -> Result<Option<Option<EntityType>>, AllocError>
-    ensures { IfOk result (λ found. found ≡ world.if_there world.type_named (tree_in value.entry)) }
-{
-    match value {
-        None => Ok(Some(None)),
-        Some(value) => match type_named(alloc, value)? {
-            None => Ok(None),
-            Some(entity_type) => Ok(Some(Some(entity_type))),
-        },
     }
 }
 

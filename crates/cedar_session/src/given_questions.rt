@@ -4,9 +4,7 @@ ghost use Rattle.cedar_data.specs.Questions.{question_tree};
 ghost use Rattle.cedar_extensions.specs.Table.{Table};
 ghost use Rattle.std.specs.Rc.{rc_str_bytes};
 ghost use Rattle.cedar_language.specs.Tree as tree;
-ghost use Rattle.cedar_partial_evaluation.specs.Question.{Given};
 ghost use Rattle.cedar_requests.specs.Holding.{request_parts};
-ghost use Rattle.cedar_requests.specs.Parts.{part_of};
 ghost use Rattle.cedar_data.specs.Simple.{record_value};
 ghost use Rattle.cedar_restricted.specs.Expressing.{Expresses};
 ghost use Rattle.cedar_restricted.specs.Views.{restricted_tree, restricted_entries};
@@ -18,31 +16,21 @@ use cedar_data::{Attributes, GivenQuestion};
 use cedar_literals::literals::Literal;
 use cedar_literals::uids::EntityUID;
 use cedar_names::conversions::FromIn;
-use cedar_requests::{Context, EntityUIDEntry, Request};
+use cedar_requests::{Context, Request};
 use cedar_restricted::restricted::RestrictedExpr;
-use cedar_telling::questions_are_asked;
+use cedar_telling::{entity_given, questions_are_asked};
 use cedar_trees::errors::ExpressionConstructionError;
 use cedar_values::values::Value;
 use std::alloc::{AllocError, Global};
 use std::rc::{Rc, RcStr};
 
-// The entity, given.
-fn entry_of(uid: &Rc<EntityUID>) -> Result<EntityUIDEntry, AllocError>
-    ensures { IfOk result (λ entry. part_of entry ≡ Given uid.now.value) }
-{
-    Ok(EntityUIDEntry::Known {
-        euid: uid.clone()?,
-        loc: None,
-    })
-}
-
 // The request that has the parts of the question.
 fn request_of_parts(question: &GivenQuestion) -> Result<Request, AllocError>
     ensures { IfOk result (λ request. request_parts request ≡ parts_asked question.now) }
 {
-    let principal = entry_of(&question.principal)?;
-    let action = entry_of(&question.action)?;
-    let resource = entry_of(&question.resource)?;
+    let principal = entity_given(&question.principal)?;
+    let action = entity_given(&question.action)?;
+    let resource = entity_given(&question.resource)?;
     let attributes = question.context.clone()?;
     Ok(Request::new_unchecked(
         principal,

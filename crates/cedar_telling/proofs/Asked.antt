@@ -1,7 +1,7 @@
 -- Contexts that are evaluated: what is held of a question's context is what the context answers.
-use Rattle.std.proofs.Common.{◌≡◌, ◌∙◌, refl, ap, sym}
+use Rattle.std.proofs.Common.{◌≡◌, ◌∙◌, ap, sym}
 use Rattle.std.specs.FinMap as map
-use Rattle.std.specs.Prelude.{Bool, true, false, ◌&&◌, List}
+use Rattle.std.specs.Prelude.{true, false, ◌&&◌, List}
 use Rattle.either.specs.declared.Either.{Either}
 use Rattle.either.specs.declared.Either.TheVariants.{Left, Right}
 use Rattle.cedar_language.specs.Uid.{Text}

@@ -1,5 +1,5 @@
 -- Data of which nothing is told: what is settled of it is what is answered, and its calls that name unknowns are data too.
-use Rattle.std.proofs.Common.{◌≡◌, ◌∙◌, ◌≢◌, refl, ap, sym, Bool, true, false, ◌&&◌, Option, None, codes}
+use Rattle.std.proofs.Common.{◌≡◌, ◌∙◌, ◌≢◌, refl, ap, sym, Bool, true, false, Option, None, codes}
 use Rattle.std.specs.FinMap as map
 use Rattle.std.specs.FinMap.{get-empty}
 use Rattle.cedar_language.specs.Uid.{Text, Name}

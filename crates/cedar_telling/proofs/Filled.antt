@@ -1,5 +1,5 @@
 -- Questions in which nothing is unknown: each has its request.
-use Rattle.std.proofs.Common.{◌≡◌, ◌∙◌, refl, ap, sym, subst, Bool, true, false, ◌&&◌, ◌||◌, Option, is_some, codes, true≢false}
+use Rattle.std.proofs.Common.{◌≡◌, ◌∙◌, refl, ap, sym, subst, true, false, ◌&&◌, Option, is_some, codes, true≢false}
 use Rattle.std.specs.FinMap as map
 use Rattle.std.specs.FinMap.{get-empty}
 use Rattle.cedar_language.specs.Uid.{Text, Uid}

@@ -1,3 +1,5 @@
+pub mod Types
+mod FoundFields
 pub mod Data
 pub mod Filled
 pub mod Asked

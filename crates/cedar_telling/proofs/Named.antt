@@ -1,5 +1,5 @@
 -- Unknowns that have no name of their own, in a context as it is written and with its calls named.
-use Rattle.std.proofs.Common.{◌≡◌, ◌∙◌, refl, ap, sym, Bool, true, false, cond, ◌&&◌, ◌||◌, None, List, [], ◌∷◌, map, Global, length, get_or, arith}
+use Rattle.std.proofs.Common.{◌≡◌, ◌∙◌, refl, ap, sym, Bool, true, false, cond, ◌||◌, None, List, [], ◌∷◌, map, Global, length, get_or, arith}
 use Rattle.std.specs.declared.rc.Rc.{Rc}
 use Rattle.std.specs.declared.rc.RcStr.{RcStr}
 use Rattle.std.specs.BTreeMap.{BTreeMap}

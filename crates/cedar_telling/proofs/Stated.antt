@@ -26,23 +26,22 @@ use Rattle.cedar_extensions.specs.declared.evaluation_error.EvaluationError.{Eva
 use Rattle.cedar_extensions.specs.Table.{Table}
 use Rattle.cedar_restricted_evaluation.specs.Evaluations.{part_answer}
 use Rattle.cedar_held.specs.Fields.{Serves, IsEvaluated}
-use Rattle.cedar_held.specs.Questions.{question_of, StandsAt, LendsContext}
+use Rattle.cedar_telling.specs.Questions.{Written, context_written, question_of, StandsAt, LendsContext}
 use Rattle.cedar_held.specs.Reading.{HasUnknown, TreesAreRead, IsRead}
 use Rattle.cedar_held.specs.BodyRefusals.{refusal_by}
-use Rattle.cedar_held.specs.declared.questions.AskBody.{AskBody}
+use Rattle.cedar_telling.specs.declared.questions.AskBody.{AskBody}
 use Rattle.cedar_held.proofs.Entries.{part_read, failure_is}
 use Rattle.cedar_replies.specs.declared.refusal.Refusal.{Refusal}
 use Rattle.cedar_replies.specs.declared.refusal.Refusal.TheVariants.{Depth, Evaluation, BadUnknown, Memory}
 use Rattle.cedar_requests.specs.Contexts.{context_part, is_record}
 use Rattle.cedar_requests.specs.Creating.{AnswersContext, Creates}
 use Rattle.cedar_requests.specs.Holding.{RequestParts, request_parts}
-use Rattle.cedar_requests.specs.Parts as requests
+use Rattle.cedar_requests.specs.Parts.{part_of}
 use Rattle.cedar_requests.specs.declared.contexts.Context.{Context}
-use Rattle.cedar_requests.specs.declared.entries.EntityUIDEntry.{EntityUIDEntry}
 use Rattle.cedar_requests.specs.declared.errors.ContextCreationError.{ContextCreationError}
 use Rattle.cedar_requests.specs.declared.errors.ContextCreationError.TheVariants as creation
 use Rattle.cedar_requests.specs.declared.requests.Request.{Request}
-use Rattle.cedar_telling.specs.Bodies.{IsDataRecord, Written, IsWrittenAsData, context_written, holds_call_in, IsDeeper, IsTakenAs, IsWhyNone, EvaluatesContext, AsksBody}
+use Rattle.cedar_telling.specs.Bodies.{IsDataRecord, IsWrittenAsData, holds_call_in, IsDeeper, IsTakenAs, IsWhyNone, EvaluatesContext, AsksBody}
 use Rattle.cedar_telling.specs.Contexts.{HasContext, neither_given, both_given, MeansRecord, QuestionsAreAsked}
 use Rattle.cedar_telling.specs.Unknowns.{badly_named}
 use Rattle.cedar_telling.proofs.Named.{all_bad_as_named}
@@ -235,16 +234,20 @@ module _ (by : Setting) (table : Table) (depth : ℕ) (tree : Tree) (b : AskBody
   unasked Memory h = tt
   unasked r h = absurd h
 
-  pub is_asked : QuestionsAreAsked → (request : Request) (p a r : EntityUIDEntry) (made : Option Context)
-      → request_parts request ≡ record { principal = requests.part_of p; action = requests.part_of a; resource = requests.part_of r; context = option_map context_part made }
-      → requests.part_of p ≡ (question_of b).principal → requests.part_of a ≡ (question_of b).action → requests.part_of r ≡ (question_of b).resource
+  pub is_asked : QuestionsAreAsked → (request : Request) (made : Option Context)
+      → request_parts request ≡ record {
+        principal = part_of b.principal;
+        action = part_of b.action;
+        resource = part_of b.resource;
+        context = option_map context_part made;
+      }
       → EvaluatesContext by table depth b.context (Ok made) → AsksBody by table depth tree (Ok request)
-  is_asked law request p a r made parts of_p of_a of_r taken = (
+  is_asked law request made parts taken = (
     question_of b,
     asks,
     record {
       is_request = law by table (question_of b) (request_parts request)
-          (ap (λ (x : RequestParts). x.principal) parts ∙ of_p) (ap (λ (x : RequestParts). x.action) parts ∙ of_a) (ap (λ (x : RequestParts). x.resource) parts ∙ of_r)
+          (ap (λ (x : RequestParts). x.principal) parts) (ap (λ (x : RequestParts). x.action) parts) (ap (λ (x : RequestParts). x.resource) parts)
           (subst (HasContext table (context_written b.context)) (sym (ap (λ (x : RequestParts). x.context) parts)) taken.evaluated) taken.means;
       fine = taken.fine;
       named = taken.named;

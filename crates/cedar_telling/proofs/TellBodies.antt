@@ -23,8 +23,8 @@ use Rattle.cedar_restricted.specs.declared.partial_values.PartialValue.{PartialV
 use Rattle.cedar_held.specs.Built.{AreBuiltEntries}
 use Rattle.cedar_held.specs.Entities.{named_all}
 use Rattle.cedar_held.specs.Fields.{Serves, AreValues, AreEvaluated}
-use Rattle.cedar_held.specs.Questions.{question_of}
-use Rattle.cedar_held.specs.declared.questions.AskBody.{AskBody}
+use Rattle.cedar_telling.specs.Questions.{question_of}
+use Rattle.cedar_telling.specs.declared.questions.AskBody.{AskBody}
 use Rattle.cedar_telling.specs.Tells.{told_in, AreFine, AreNamed, AreNew, TellsBody}
 use Rattle.cedar_telling.specs.TellSteps.{some_misfit, with_attributes}
 use Rattle.cedar_telling.proofs.TellParts.{each_uncalled, record_higher, fields_named, same_keys, all_put, misfits_are, one_portion}

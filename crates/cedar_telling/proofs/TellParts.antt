@@ -1,5 +1,5 @@
 -- A body that tells, one part at a time: the record that it is, what is told at each name, and what is asked of its names and values.
-use Rattle.std.proofs.Common.{◌≡◌, ◌∙◌, ◌≤◌, ◌<◌, ℕ, suc, refl, ap, sym, arith, true≢false, Bool, true, false, cond, not, ◌&&◌, ◌||◌, Option, Some, None, List, [], ◌∷◌, ◌++◌, map, codes, Global}
+use Rattle.std.proofs.Common.{◌≡◌, ◌∙◌, ◌≤◌, ◌<◌, ℕ, suc, refl, ap, sym, arith, true≢false, Bool, true, false, cond, not, ◌||◌, Option, Some, None, List, [], ◌∷◌, ◌++◌, map, codes, Global}
 use Rattle.std.specs.Borrow.{Bor}
 use Rattle.std.specs.Cmp.Lexicographic.{bytes_decides, nat_list_eq_equiv}
 use Rattle.std.specs.FinMap as finite
@@ -40,7 +40,7 @@ use Rattle.cedar_substitution.proofs.Lookups.{key_cmp, same_key, looked_up, keep
 use Rattle.cedar_held.specs.Entities.{named_all}
 use Rattle.cedar_held.specs.Fields.{unrestricted, deeper, as_entries}
 use Rattle.cedar_held.specs.Lent.{fields_in}
-use Rattle.cedar_held.specs.Questions.{StandsAt, LendsContext}
+use Rattle.cedar_telling.specs.Questions.{StandsAt, LendsContext}
 use Rattle.cedar_telling.specs.Tells.{told_in}
 use Rattle.cedar_telling.specs.TellSteps.{IsGivenRestricted, some_misfit, with_attribute, with_attributes}
 use Rattle.cedar_telling.specs.UnknownNames.{stands_in_some}

@@ -1,5 +1,5 @@
 -- Names of unknowns, in a context as it is written and with its calls named.
-use Rattle.std.proofs.Common.{◌≡◌, ◌∙◌, refl, ap, sym, Bool, true, false, cond, ◌&&◌, ◌||◌, List, map, Global}
+use Rattle.std.proofs.Common.{◌≡◌, ◌∙◌, refl, ap, sym, Bool, true, false, cond, ◌||◌, List, map, Global}
 use Rattle.std.specs.declared.rc.Rc.{Rc}
 use Rattle.std.specs.declared.rc.RcStr.{RcStr}
 use Rattle.std.specs.BTreeMap.{BTreeMap}
@@ -22,7 +22,7 @@ use Rattle.cedar_grammar.specs.Functions.{is_the_unknown}
 use Rattle.cedar_telling.specs.Unknowns.{name_given}
 use Rattle.cedar_telling.specs.UnknownNames.{passes_or, stands_in, stands_in_some}
 use Rattle.cedar_telling.proofs.Named.{other_stays, named_no_text}
-use Rattle.cedar_lemmas.proofs.Booleans.{or_nothing as or_false, and_first as and_left, and_second as and_right}
+use Rattle.cedar_lemmas.proofs.Booleans.{and_first as and_left, and_second as and_right}
 
 -- ---- as it is written
 

@@ -1,6 +1,7 @@
 -- Names that are gathered in a list: those for which a question wants values.
-use Rattle.std.specs.Prelude.{◌≡◌, Bool, not, is_some, ◌&&◌, ◌||◌, List, Some}
+use Rattle.std.specs.Prelude.{◌≡◌, Bool, not, is_some, ◌&&◌, ◌||◌, List, Some, Vec, map}
 use Rattle.std.specs.Borrow.{Bor}
+use Rattle.std.specs.declared.alloc.Global.{Global}
 use Rattle.std.specs.BTreeSet.{BTreeSet, contains_by}
 use Rattle.std.specs.FinMap as finite
 use Rattle.std.specs.List.{list_any}
@@ -14,13 +15,18 @@ use Rattle.cedar_world.specs.Question.{is_unknown}
 abbrev pub has_name : List Text → Text → Bool
 has_name names n = list_any (text_eq n) names
 
+-- the same of names that are lent
+abbrev pub names_it : Vec (Bor Text) Global → Text → Bool
+names_it names t = has_name (map (λ n. n.now) names.items) t
+
 -- the same of names in a set
 abbrev pub is_listed : BTreeSet (Bor Text) → Text → Bool
 is_listed names n = contains_by (λ k. text_cmp n k.now) names
 
 -- names were appended: a test passes some name now if it passed one before, or passes one of these
-abbrev pub AddsNames : ((Text → Bool) → Bool) → List Text → List Text → Type 0
-AddsNames passes_some old new = (test : Text → Bool) → list_any test new ≡ (list_any test old || passes_some test)
+abbrev pub AddsNames : ((Text → Bool) → Bool) → Vec (Bor Text) Global → Vec (Bor Text) Global → Type 0
+AddsNames passes_some old new =
+    (test : Text → Bool) → list_any test (map (λ n. n.now) new.items) ≡ (list_any test (map (λ n. n.now) old.items) || passes_some test)
 
 -- the names are those for which the question of a body wants values
 abbrev pub AreAskedBy : Tree → List Text → Type 0

@@ -1,16 +1,13 @@
 -- The request of a body that states a question, or why it has none.
 use Rattle.std.specs.Prelude.{◌≡◌, ◌<◌, ⊤, ℕ, Bool, true, false, Option, Some, None, option_map, List, Result, Ok, Err}
-use Rattle.std.specs.Borrow.{Bor}
 use Rattle.std.specs.FinMap as map
-use Rattle.std.specs.Option.{unwrap_or}
 use Rattle.cedar_language.specs.Height.{height}
 use Rattle.cedar_language.specs.Restricted.{is_restricted}
 use Rattle.cedar_language.specs.Tree.{MakeRecord, Tree, Apply, Trees}
 use Rattle.cedar_language.specs.Uid.{Text}
 use Rattle.cedar_trees.specs.Bare.{bare}
-use Rattle.cedar_trees.specs.declared.expr.Expr.{Expr}
-use Rattle.cedar_held.specs.Questions.{given_context}
-use Rattle.cedar_world.specs.Asking.{Entries, NoContext, Question}
+use Rattle.cedar_telling.specs.Questions.{Written, context_written}
+use Rattle.cedar_world.specs.Asking.{Entries, Question}
 use Rattle.cedar_grammar.specs.UnknownCalls.{holds_call}
 use Rattle.cedar_world.specs.Bodies.{ask_body}
 use Rattle.cedar_world.specs.Setting.{Setting}
@@ -38,16 +35,9 @@ pub record IsDataRecord (t : Tree) : Type 0 where
   pub values : Trees
   pub is : t ≡ Apply (MakeRecord names) values
 
--- what a body has for its context, where it has one
-abbrev pub Written : Type 0
-Written = Option (Bor (Expr (Unit {0})))
-
 abbrev pub IsWrittenAsData : Written → Type 0
 IsWrittenAsData None = ⊤
 IsWrittenAsData (Some e) = IsDataRecord (bare e.now)
-
-abbrev pub context_written : Written → Entries
-context_written written = unwrap_or (option_map given_context written) NoContext
 
 abbrev pub holds_call_in : Written → Bool
 holds_call_in None = false

@@ -1,3 +1,4 @@
+pub mod Questions
 pub mod Requests
 pub mod Contexts
 pub mod Bodies

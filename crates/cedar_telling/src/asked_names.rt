@@ -1,26 +1,26 @@
 // The names for which a question wants values.
-ghost use Rattle.std.specs.Prelude.{◌≡◌, ◌&&◌, ◌||◌, ◌∷◌, [], ◌++◌, not, is_some, IfOk, OnOk, List, option_map, map};
+ghost use Rattle.std.specs.Prelude.{◌≡◌, ◌&&◌, ◌||◌, ◌∷◌, [], ◌++◌, not, is_some, IfOk, OnOk, List, map};
 ghost use Rattle.std.specs.FinMap as finite;
 ghost use Rattle.std.specs.List.{filter};
-ghost use Rattle.std.specs.Option.{unwrap_or};
 ghost use Rattle.cedar_grammar.specs.Build.{trees};
-ghost use Rattle.cedar_held.specs.Questions.{part_asked, question_of, given_context};
+ghost use Rattle.cedar_requests.specs.Parts.{part_of};
+ghost use Rattle.cedar_telling.specs.Questions.{context_written, question_of};
 ghost use Rattle.cedar_language.specs.Uid.{Text};
 ghost use Rattle.cedar_restricted.specs.Views.{restricted_tree};
 ghost use Rattle.cedar_trees.specs.Bare.{bare, bare_entries};
-ghost use Rattle.cedar_world.specs.Asking.{NoContext};
 ghost use Rattle.cedar_world.specs.Orders.{text_eq};
 ghost use Rattle.cedar_world.specs.Question as world;
-ghost use Rattle.cedar_telling.specs.AskedNames.{has_name, is_listed, AddsNames, AreAskedBy, AreUntoldOf};
+ghost use Rattle.cedar_telling.specs.AskedNames.{has_name, names_it, is_listed, AddsNames, AreAskedBy, AreUntoldOf};
 ghost use Rattle.cedar_telling.specs.TellSteps.{IsGivenRestricted};
 ghost use Rattle.cedar_telling.specs.Tells.{told_in};
 ghost use Rattle.cedar_telling.specs.UnknownNames.{stands_in, stands_in_call, stands_in_some};
 
+use crate::questions::{AskBody, ask_body};
 use crate::telling::is_told;
 use crate::unknowns::{is_unknown, name_of};
 use crate::wanted::context_entries;
-use cedar_held::{AskBody, AskedPart, ask_body};
 use cedar_names::names::Name;
+use cedar_requests::EntityUIDEntry;
 use cedar_restricted::restricted::RestrictedExpr;
 use cedar_trees::expr::{Expr, ExprKind};
 use cedar_values::values::Value;
@@ -29,7 +29,7 @@ use std::collections::{BTreeMap, BTreeSet};
 use std::rc::RcStr;
 
 fn push_name<'e>(names: &mut Vec<&'e str>, name: &'e str) -> Result<(), AllocError>
-    ensures { OnOk result (AddsNames (λ test. test name.now) (map (λ n. n.now) names.old.items) (map (λ n. n.now) names.new.items)) }
+    ensures { OnOk result (AddsNames (λ test. test name.now) names.old names.new) }
 {
     names.push(name)?;
     Ok(())
@@ -40,7 +40,7 @@ fn push_name<'e>(names: &mut Vec<&'e str>, name: &'e str) -> Result<(), AllocErr
 #[cycle(push_names)]
 #[tactic(auto, using(crate::proofs::WrittenNames::below))]
 fn push_names<'e>(names: &mut Vec<&'e str>, expr: &'e Expr) -> Result<(), AllocError>
-    ensures { OnOk result (AddsNames (λ test. stands_in test (bare expr.now)) (map (λ n. n.now) names.old.items) (map (λ n. n.now) names.new.items)) }
+    ensures { OnOk result (AddsNames (λ test. stands_in test (bare expr.now)) names.old names.new) }
 {
     match &expr.expr_kind {
         ExprKind::Unknown(unknown) => push_name(names, &unknown.name),
@@ -61,7 +61,7 @@ fn push_call<'e>(
     function: &Name,
     args: &'e [Expr],
 ) -> Result<(), AllocError>
-    ensures { OnOk result (AddsNames (λ test. stands_in_call test function.now (trees (map bare args.now))) (map (λ n. n.now) names.old.items) (map (λ n. n.now) names.new.items)) }
+    ensures { OnOk result (AddsNames (λ test. stands_in_call test function.now (trees (map bare args.now))) names.old names.new) }
 {
     if is_unknown(function) {
         match name_of(args) {
@@ -75,7 +75,7 @@ fn push_call<'e>(
 
 #[cycle(push_names)]
 fn push_all<'e>(names: &mut Vec<&'e str>, items: &'e [Expr]) -> Result<(), AllocError>
-    ensures { OnOk result (AddsNames (λ test. stands_in_some test (trees (map bare items.now))) (map (λ n. n.now) names.old.items) (map (λ n. n.now) names.new.items)) }
+    ensures { OnOk result (AddsNames (λ test. stands_in_some test (trees (map bare items.now))) names.old names.new) }
 {
     for item in items {
         push_names(names, item)?;
@@ -88,7 +88,7 @@ fn push_entries<'e>(
     names: &mut Vec<&'e str>,
     entries: &'e BTreeMap<RcStr, Expr>,
 ) -> Result<(), AllocError>
-    ensures { OnOk result (AddsNames (λ test. stands_in_some test (trees (map (λ e. e.1) (bare_entries entries.now.entries)))) (map (λ n. n.now) names.old.items) (map (λ n. n.now) names.new.items)) }
+    ensures { OnOk result (AddsNames (λ test. stands_in_some test (trees (map (λ e. e.1) (bare_entries entries.now.entries)))) names.old names.new) }
 {
     for (_key, expr) in entries {
         push_names(names, expr)?;
@@ -99,21 +99,21 @@ fn push_entries<'e>(
 // Appends the name of a variable for which nothing is given.
 fn push_missing<'e>(
     names: &mut Vec<&'e str>,
-    part: &AskedPart<'_>,
+    part: &EntityUIDEntry,
     variable: &'e str,
 ) -> Result<(), AllocError>
-    ensures { OnOk result (AddsNames (λ test. world.is_missing (part_asked part.now) && test variable.now) (map (λ n. n.now) names.old.items) (map (λ n. n.now) names.new.items)) }
+    ensures { OnOk result (AddsNames (λ test. world.is_missing (part_of part.now) && test variable.now) names.old names.new) }
 {
     match part {
-        AskedPart::Given(_) => Ok(()),
-        AskedPart::Missing(_) => push_name(names, variable),
+        EntityUIDEntry::Known { euid: _, loc: _ } => Ok(()),
+        EntityUIDEntry::Unknown { ty: _, loc: _ } => push_name(names, variable),
     }
 }
 
 // Appends the names of the context's unknowns: itself, where none is given.
 fn push_context<'e>(names: &mut Vec<&'e str>, context: Option<&'e Expr>) -> Result<(), AllocError>
     requires { IsGivenRestricted context }
-    ensures { OnOk result ((n : Text) → has_name (map (λ n. n.now) names.new.items) n ≡ (has_name (map (λ n. n.now) names.old.items) n || world.has_name (unwrap_or (option_map given_context context.entry) NoContext) n)) }
+    ensures { OnOk result ((n : Text) → names_it names.new n ≡ (names_it names.old n || world.has_name (context_written context.entry) n)) }
 {
     match context_entries(context) {
         None => push_name(names, "context"),
@@ -124,7 +124,7 @@ fn push_context<'e>(names: &mut Vec<&'e str>, context: Option<&'e Expr>) -> Resu
 // The names for which a question wants values.
 fn names_of<'q>(alloc: Global, asked: &AskBody<'q>) -> Result<Vec<&'q str>, AllocError>
     requires { IsGivenRestricted asked.now.context }
-    ensures { IfOk result (λ names. (n : Text) → has_name (map (λ n. n.now) names.items) n ≡ world.is_unknown (question_of asked.now) n) }
+    ensures { IfOk result (λ names. (n : Text) → names_it names n ≡ world.is_unknown (question_of asked.now) n) }
 {
     let mut names = Vec::new(alloc);
     push_missing(&mut names, &asked.principal, "principal")?;

@@ -1,42 +1,24 @@
 // The request that a body states.
-ghost use Rattle.std.specs.Prelude.{◌≡◌, IfOk};
 ghost use Rattle.cedar_held.specs.Fields.{Serves};
-ghost use Rattle.cedar_held.specs.Questions.{part_asked};
 ghost use Rattle.cedar_extensions.specs.Table.{as_table};
-ghost use Rattle.cedar_requests.specs.Parts as requests;
 ghost use Rattle.cedar_restricted.specs.Views.{restricted_tree};
 ghost use Rattle.cedar_grammar.specs.UnknownCalls.{holds_call};
 ghost use Rattle.cedar_world.specs.Setting.{Setting};
 ghost use Rattle.cedar_telling.specs.Bodies.{IsWrittenAsData, holds_call_in, IsWhyNone, EvaluatesContext, AsksBody};
 
+use crate::questions::ask_body;
 use crate::questions_are_asked;
 use crate::unknowns::is_badly_named;
 use cedar_extensions::extensions::Extensions;
 use cedar_extensions::objects::ExtensionFunctionObject;
+use cedar_held::refusal;
 use cedar_held::version_laws::trees_are_read;
-use cedar_held::{AskedPart, ask_body, refusal};
 use cedar_replies::Refusal;
-use cedar_requests::{Context, ContextCreationError, EntityUIDEntry, Request};
+use cedar_requests::{Context, ContextCreationError, Request};
 use cedar_restricted::borrowed::BorrowedRestrictedExpr;
 use cedar_restricted::restricted::RestrictedExpr;
 use cedar_trees::expr::Expr;
-use std::alloc::{AllocError, Global};
-
-// A principal, an action or a resource that is given, or of which at most the type is known.
-fn entry_of(part: AskedPart<'_>) -> Result<EntityUIDEntry, AllocError>
-    ensures { IfOk result (λ entry. requests.part_of entry ≡ part_asked part.entry) }
-{
-    match part {
-        AskedPart::Given(uid) => Ok(EntityUIDEntry::Known {
-            euid: uid.clone()?,
-            loc: None,
-        }),
-        AskedPart::Missing(None) => Ok(EntityUIDEntry::unknown()),
-        AskedPart::Missing(Some(entity_type)) => {
-            Ok(EntityUIDEntry::unknown_with_type(entity_type, None))
-        }
-    }
-}
+use std::alloc::Global;
 
 // Why no context is made of a record, of which no key stands twice.
 fn why_none(error: &ContextCreationError) -> Refusal
@@ -94,9 +76,6 @@ pub fn request_of<F: ExtensionFunctionObject>(
     let Some(asked) = ask_body(alloc, body.as_ref())? else {
         return Err(Refusal::Shape);
     };
-    let principal = entry_of(asked.principal)?;
-    let action = entry_of(asked.action)?;
-    let resource = entry_of(asked.resource)?;
     let context = context_of(alloc, asked.context, extensions, depth)?;
-    Ok(Request::new_unchecked(principal, action, resource, context))
+    Ok(Request::new_unchecked(asked.principal, asked.action, asked.resource, context))
 }

@@ -1,21 +1,24 @@
 // What a question asks for: the kinds of its unknowns' values.
 ghost use Rattle.std.specs.Prelude.{◌≡◌, true, false, codes, IfSome, option_map, if◌then◌else◌};
-ghost use Rattle.std.specs.Option.{option_copied, unwrap_or};
+ghost use Rattle.std.specs.Option.{option_copied};
 ghost use Rattle.cedar_language.specs.Tree.{RecordType};
 ghost use Rattle.cedar_partial_evaluation.specs.Unknowns.{is_of_type};
-ghost use Rattle.cedar_world.specs.Asking.{Missing, NoContext};
+ghost use Rattle.cedar_world.specs.Asking.{Missing};
 ghost use Rattle.cedar_world.specs.Orders.{text_eq};
 ghost use Rattle.cedar_world.specs.Question as world;
 ghost use Rattle.cedar_world.specs.Values.{some_field};
 ghost use Rattle.cedar_held.specs.Fields.{unrestricted};
 ghost use Rattle.cedar_held.specs.Lent.{fields_in};
-ghost use Rattle.cedar_held.specs.Questions.{part_asked, question_of, given_context};
+ghost use Rattle.cedar_requests.specs.Parts.{part_of};
+ghost use Rattle.cedar_telling.specs.Questions.{context_written, question_of};
 ghost use Rattle.cedar_telling.specs.TellSteps.{IsGivenRestricted, entries_as};
 
+use crate::questions::AskBody;
 use crate::unknowns::is_same;
-use cedar_held::{AskBody, AskedPart, entries_of};
+use cedar_held::entries_of;
 use cedar_literals::literals::Literal;
 use cedar_literals::uids::EntityType;
+use cedar_requests::EntityUIDEntry;
 use cedar_trees::expr::Expr;
 use cedar_values::values::{Value, ValueKind};
 use std::collections::BTreeMap;
@@ -24,7 +27,7 @@ use std::rc::RcStr;
 // The entries of the record that is given for the context.
 pub(crate) fn context_entries(context: Option<&Expr>) -> Option<&BTreeMap<RcStr, Expr>>
     requires { IsGivenRestricted context }
-    ensures context { entries_as (option_map (λ entries. fields_in entries.now) result) ≡ unwrap_or (option_map given_context context.entry) NoContext }
+    ensures context { entries_as (option_map (λ entries. fields_in entries.now) result) ≡ context_written context.entry }
     ensures restricted { IfSome result (λ entries. some_field unrestricted (fields_in entries.now) ≡ false) }
 {
     match context {
@@ -57,13 +60,13 @@ fn is_record(value: &Value) -> bool
 
 // Whether a variable takes the value that is told for this name: an entity, of the stated type where one is
 // stated, where it is its own name.
-fn part_takes(part: &AskedPart<'_>, variable: &str, name: &str, value: &Value) -> bool
-    ensures { result ≡ (if text_eq name.now variable.now then world.fits_part (part_asked part.now) value.now else true) }
+fn part_takes(part: &EntityUIDEntry, variable: &str, name: &str, value: &Value) -> bool
+    ensures { result ≡ (if text_eq name.now variable.now then world.fits_part (part_of part.now) value.now else true) }
 {
     match part {
-        AskedPart::Given(_) => true,
-        AskedPart::Missing(entity_type) => {
-            !is_same(name, variable) || is_entity(entity_type.as_ref(), value)
+        EntityUIDEntry::Known { euid: _, loc: _ } => true,
+        EntityUIDEntry::Unknown { ty, loc: _ } => {
+            !is_same(name, variable) || is_entity(ty.as_ref(), value)
         }
     }
 }
@@ -71,7 +74,7 @@ fn part_takes(part: &AskedPart<'_>, variable: &str, name: &str, value: &Value) -
 // The same of a record for the context.
 fn context_takes(context: Option<&Expr>, name: &str, value: &Value) -> bool
     requires { IsGivenRestricted context }
-    ensures { result ≡ (if text_eq name.now (codes "context") then world.fits_context (unwrap_or (option_map given_context context.entry) NoContext) value.now else true) }
+    ensures { result ≡ (if text_eq name.now (codes "context") then world.fits_context (context_written context.entry) value.now else true) }
 {
     match context_entries(context) {
         None => !is_same(name, "context") || is_record(value),

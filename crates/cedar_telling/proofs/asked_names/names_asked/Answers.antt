@@ -1,7 +1,7 @@
 -- The question of the body is that which was read of it.
 use Rattle.std.proofs.Common.{◌≡◌, ◌∙◌, ap, None, Some}
 use Rattle.std.specs.Option.{unwrap_or}
-use Rattle.cedar_held.specs.Questions.{question_of, LendsContext}
+use Rattle.cedar_telling.specs.Questions.{question_of, LendsContext}
 use Rattle.cedar_trees.specs.Bare.{bare}
 use Rattle.cedar_world.proofs.Parts.{not_none}
 use Rattle.cedar_world.specs.Asking.{Question}

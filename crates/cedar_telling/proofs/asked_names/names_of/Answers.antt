@@ -1,7 +1,7 @@
 -- The names of a question's parts, one after another.
 use Rattle.std.proofs.Common.{◌∙◌, ◌&&◌, ◌||◌, ap, codes, List, map}
 use Rattle.std.specs.List.{list_any}
-use Rattle.cedar_held.specs.Questions.{question_of}
+use Rattle.cedar_telling.specs.Questions.{question_of}
 use Rattle.cedar_language.specs.Uid.{Text}
 use Rattle.cedar_world.specs.Asking.{Question}
 use Rattle.cedar_world.specs.Orders.{text_eq}

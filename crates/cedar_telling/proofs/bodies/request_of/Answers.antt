@@ -1,7 +1,7 @@
 -- The parts of the body's question, and what its context is evaluated to.
 use Rattle.std.proofs.Common.{◌≡◌, sym, ◌∙◌, ap, subst, Some, None}
 use Rattle.std.proofs.lemmas.Result.{err_from_is_err_and}
-use Rattle.cedar_held.specs.Questions.{question_of, LendsContext}
+use Rattle.cedar_telling.specs.Questions.{question_of, LendsContext}
 use Rattle.cedar_extensions.specs.Table.{as_table}
 use Rattle.cedar_language.specs.Tree.{Tree}
 use Rattle.cedar_restricted.specs.Views.{restricted_tree}
@@ -49,5 +49,4 @@ returns g c = λ by serves.
     let asked = (goal.at.returns g c).In-Some in
     let lent = lent_body g asked in
     is_asked by table c.args.depth tree b (is_stated g asked) lent c.questions_are_asked.ensures c.new_unchecked.result
-    c.in_ok-principal.principal c.in_ok-action.action c.in_ok-resource.resource c.in_ok-context.context c.new_unchecked.ensures.held
-    c.in_ok-principal.ensures c.in_ok-action.ensures c.in_ok-resource.ensures (c.in_ok-context.ensures by (serves_written tree table by b.context lent serves))
+    c.in_ok-context.context c.new_unchecked.ensures.held (c.in_ok-context.ensures by (serves_written tree table by b.context lent serves))

@@ -1,7 +1,7 @@
 -- Each value that was passed is of its unknown's kind, so the values to come decide.
 use Rattle.std.proofs.Common.{◌≡◌}
 use Rattle.cedar_entities.specs.Attributes.{seen_entries}
-use Rattle.cedar_held.specs.Questions.{question_of}
+use Rattle.cedar_telling.specs.Questions.{question_of}
 use Rattle.cedar_telling.specs.TellSteps.{some_misfit}
 use Rattle.cedar_telling.proofs.telling.holds_misfit.Given as goal
 

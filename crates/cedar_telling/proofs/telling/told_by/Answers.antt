@@ -3,7 +3,7 @@ use Rattle.std.proofs.Common.{◌≡◌, ◌∙◌, sym, ap, not, None, Some, Ok
 use Rattle.std.proofs.lemmas.Result.{err_from_is_err_and}
 use Rattle.cedar_held.specs.Fields.{AreEvaluated}
 use Rattle.cedar_held.specs.Lent.{fields_in}
-use Rattle.cedar_held.specs.Questions.{question_of, LendsContext}
+use Rattle.cedar_telling.specs.Questions.{question_of, LendsContext}
 use Rattle.cedar_extensions.specs.Table.{as_table}
 use Rattle.cedar_restricted.specs.Views.{restricted_tree}
 use Rattle.cedar_trees.specs.Bare.{bare, record_tree}

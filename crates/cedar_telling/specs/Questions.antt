@@ -6,31 +6,32 @@ use Rattle.cedar_language.specs.Tree.{MakeRecord, Tree, Apply, Trees}
 use Rattle.cedar_language.specs.Uid.{Text}
 use Rattle.cedar_trees.specs.Bare.{bare}
 use Rattle.cedar_trees.specs.declared.expr.Expr.{Expr}
-use Rattle.cedar_world.specs.Asking as world
-use Rattle.cedar_world.specs.Asking.{Part, Question, Entries, NoContext}
+use Rattle.cedar_requests.specs.Parts.{part_of}
+use Rattle.cedar_world.specs.Asking.{Question, Entries, NoContext}
 use Rattle.cedar_world.specs.Bodies.{Fields, fields_of, found, entries_of}
-use Rattle.cedar_held.specs.declared.questions.AskBody.{AskBody}
-use Rattle.cedar_held.specs.declared.questions.AskedPart.{AskedPart}
-use Rattle.cedar_held.specs.declared.questions.AskedPart.TheVariants.{Given, Missing}
-use Rattle.cedar_held.specs.declared.questions.QuestionFields.{QuestionFields}
-use Rattle.cedar_held.specs.declared.questions.QuestionKey.{QuestionKey}
-use Rattle.cedar_held.specs.declared.questions.QuestionKey.TheVariants.{Principal, PrincipalType, Action, Resource, ResourceType, Context}
+use Rattle.cedar_telling.specs.declared.questions.AskBody.{AskBody}
+use Rattle.cedar_telling.specs.declared.questions.QuestionFields.{QuestionFields}
+use Rattle.cedar_telling.specs.declared.questions.QuestionKey.{QuestionKey}
+use Rattle.cedar_telling.specs.declared.questions.QuestionKey.TheVariants.{Principal, PrincipalType, Action, Resource, ResourceType, Context}
 use Rattle.cedar_held.specs.Lent.{tree_in}
 
 -- the context that a record is; a call that names an unknown is that unknown
 abbrev pub given_context : Bor (Expr (Unit {0})) → Entries
 given_context e = unwrap_or (entries_of (bare e.now)) NoContext
 
-abbrev pub part_asked : AskedPart → Part
-part_asked (Given uid) = world.Given uid.now.value
-part_asked (Missing entity_type) = world.Missing entity_type
+-- what a body has for its context, where it has one
+abbrev pub Written : Type 0
+Written = Option (Bor (Expr (Unit {0})))
+
+abbrev pub context_written : Written → Entries
+context_written written = unwrap_or (option_map given_context written) NoContext
 
 abbrev pub question_of : AskBody → Question
 question_of b = record {
-  principal = part_asked b.principal;
-  action = part_asked b.action;
-  resource = part_asked b.resource;
-  context = unwrap_or (option_map given_context b.context) NoContext;
+  principal = part_of b.principal;
+  action = part_of b.action;
+  resource = part_of b.resource;
+  context = context_written b.context;
 }
 
 -- how the key is spelled
@@ -65,12 +66,12 @@ pub record StandsAt (fs : Fields) (c : Tree) : Type 0 where
   pub values : Trees
   pub is : c ≡ Apply (MakeRecord names) values
 
-abbrev pub LendsFrom : Fields → Option (Bor (Expr (Unit {0}))) → Type 0
+abbrev pub LendsFrom : Fields → Written → Type 0
 LendsFrom fs None = ⊤
 LendsFrom fs (Some e) = StandsAt fs (bare e.now)
 
 -- the same of the record that a body is
-pub record LendsContext (t : Tree) (lent : Option (Bor (Expr (Unit {0})))) : Type 0 where
+pub record LendsContext (t : Tree) (lent : Written) : Type 0 where
   pub entries : Fields
   pub are : fields_of t ≡ Some entries
   pub from : LendsFrom entries lent

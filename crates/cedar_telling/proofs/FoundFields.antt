@@ -8,10 +8,10 @@ use Rattle.cedar_language.specs.Uid.{Text}
 use Rattle.cedar_world.specs.Orders.{text_eq}
 use Rattle.cedar_world.specs.Bodies.{Fields, found, are_among, question_keys}
 use Rattle.cedar_held.specs.Lent.{tree_in}
-use Rattle.cedar_held.specs.Questions.{key_spelled}
-use Rattle.cedar_held.specs.declared.questions.QuestionFields.{QuestionFields}
-use Rattle.cedar_held.specs.declared.questions.QuestionKey.{QuestionKey}
-use Rattle.cedar_held.specs.declared.questions.QuestionKey.TheVariants.{Principal, PrincipalType, Action, Resource, ResourceType, Context}
+use Rattle.cedar_telling.specs.Questions.{key_spelled}
+use Rattle.cedar_telling.specs.declared.questions.QuestionFields.{QuestionFields}
+use Rattle.cedar_telling.specs.declared.questions.QuestionKey.{QuestionKey}
+use Rattle.cedar_telling.specs.declared.questions.QuestionKey.TheVariants.{Principal, PrincipalType, Action, Resource, ResourceType, Context}
 
 -- what stands beside each key was found already, or else stands among the fields to come
 pub record FoundSoFar (fs rest : Fields) (q : QuestionFields) : Type 0 where

@@ -5,8 +5,8 @@ use Rattle.cedar_language.specs.Uid.{Text}
 use Rattle.cedar_trees.specs.Bare.{bare, bare_entries}
 use Rattle.cedar_trees.specs.declared.expr.Expr.{Expr}
 use Rattle.cedar_world.specs.Bodies.{are_among, question_keys}
-use Rattle.cedar_held.proofs.Asked.{another_key}
-use Rattle.cedar_held.proofs.questions.find_fields.Goals as goal
+use Rattle.cedar_telling.proofs.FoundFields.{another_key}
+use Rattle.cedar_telling.proofs.questions.find_fields.Goals as goal
 
 pub returns-in-None-question_key-clause-keys : goal.returns-in-None-question_key-clause-keys
 returns-in-None-question_key-clause-keys c =

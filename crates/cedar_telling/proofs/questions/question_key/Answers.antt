@@ -2,10 +2,10 @@
 use Rattle.std.proofs.Common.{◌≢◌, codes}
 use Rattle.std.specs.Cmp.Lexicographic.{same_text, other_text}
 use Rattle.cedar_language.specs.Uid.{Text}
-use Rattle.cedar_held.specs.Questions.{key_spelled}
-use Rattle.cedar_held.specs.declared.questions.QuestionKey.{QuestionKey}
-use Rattle.cedar_held.specs.declared.questions.QuestionKey.TheVariants.{Principal, PrincipalType, Action, Resource, ResourceType, Context}
-use Rattle.cedar_held.proofs.questions.question_key.Goals as goal
+use Rattle.cedar_telling.specs.Questions.{key_spelled}
+use Rattle.cedar_telling.specs.declared.questions.QuestionKey.{QuestionKey}
+use Rattle.cedar_telling.specs.declared.questions.QuestionKey.TheVariants.{Principal, PrincipalType, Action, Resource, ResourceType, Context}
+use Rattle.cedar_telling.proofs.questions.question_key.Goals as goal
 
 pub returns-then-is_same-clause-spelled : goal.returns-then-is_same-clause-spelled
 returns-then-is_same-clause-spelled c = same_text c.args.text.now (codes "principal") c.if-is_same.ensures

@@ -1,38 +1,32 @@
 // The body of a question.
 ghost use Rattle.std.specs.Prelude.{◌≡◌, ◌≢◌, IfOk, IfSome, IfNone, Some, None, is_some, option_map, codes};
+ghost use Rattle.cedar_partial_evaluation.specs.Question.{Given, Missing};
+ghost use Rattle.cedar_requests.specs.Parts as requests;
 ghost use Rattle.cedar_trees.specs.Bare.{bare};
 ghost use Rattle.cedar_world.specs.Bodies as world;
 ghost use Rattle.cedar_world.specs.Bodies.{Fields};
 ghost use Rattle.cedar_held.specs.Lent.{fields_in, tree_in};
-ghost use Rattle.cedar_held.specs.declared.questions.QuestionKey.{QuestionKey};
-ghost use Rattle.cedar_held.specs.Questions.{key_spelled, part_asked, question_of, given_context, LendsEach, IsRecordOf, LendsFrom, LendsContext};
+ghost use Rattle.cedar_telling.specs.declared.questions.QuestionKey.{QuestionKey};
+ghost use Rattle.cedar_telling.specs.Questions.{key_spelled, question_of, given_context, LendsEach, IsRecordOf, LendsFrom, LendsContext};
 
-use crate::fields::{entity_if_given, type_if_given};
-use crate::literals::entries_of;
+use crate::stated_types::type_if_given;
+use cedar_held::{entity_if_given, entries_of};
 use cedar_literals::uids::{EntityType, EntityUID};
 use cedar_names::comparing::is_same;
+use cedar_requests::EntityUIDEntry;
 use cedar_trees::expr::Expr;
 use std::alloc::{AllocError, Global};
 use std::collections::BTreeMap;
 use std::rc::{Rc, RcStr};
 
-/// A principal, an action or a resource of a question.
+/// What is asked: who asks, what is to be done and to what, each given or unknown, and the record that is written for
+/// the context where one is given.
 #[derive(Drop)]
-pub enum AskedPart<'e> {
-    /// It is given.
-    Given(&'e Rc<EntityUID>),
-    /// It is missing, and of this type where one is stated.
-    Missing(Option<EntityType>),
-}
-
-/// What is asked: the entities that are given, and the record that is written for the context where one
-/// is given.
-#[derive(Drop)]
-pub struct AskBody<'e> {
-    pub principal: AskedPart<'e>,
-    pub action: AskedPart<'e>,
-    pub resource: AskedPart<'e>,
-    pub context: Option<&'e Expr>,
+pub(crate) struct AskBody<'e> {
+    pub(crate) principal: EntityUIDEntry,
+    pub(crate) action: EntityUIDEntry,
+    pub(crate) resource: EntityUIDEntry,
+    pub(crate) context: Option<&'e Expr>,
 }
 
 // What stands beside each key that a question may have.
@@ -132,26 +126,49 @@ fn context_if_given(value: Option<&Expr>) -> Option<Option<&Expr>>
     }
 }
 
-// What is given, or missing; none where a type is stated of what is given.
-fn asked_part(uid: Option<&Rc<EntityUID>>, entity_type: Option<EntityType>) -> Option<AskedPart<'_>>
-    ensures { option_map part_asked result ≡ world.part_of (option_map (λ uid. uid.now.value) uid.entry) entity_type }
+/// The entity, given. Refused for memory alone.
+pub fn entity_given(uid: &Rc<EntityUID>) -> Result<EntityUIDEntry, AllocError>
+    ensures { IfOk result (λ entry. requests.part_of entry ≡ Given uid.now.value) }
+{
+    Ok(EntityUIDEntry::Known {
+        euid: uid.clone()?,
+        loc: None,
+    })
+}
+
+// An entity that isn't given, of this type where one is stated.
+fn entity_unknown(entity_type: Option<EntityType>) -> EntityUIDEntry
+    ensures { requests.part_of result ≡ Missing entity_type }
+{
+    match entity_type {
+        None => EntityUIDEntry::unknown(),
+        Some(entity_type) => EntityUIDEntry::unknown_with_type(entity_type, None),
+    }
+}
+
+// What is given, or unknown; none where a type is stated of what is given.
+fn entity_asked(
+    uid: Option<&Rc<EntityUID>>,
+    entity_type: Option<EntityType>,
+) -> Result<Option<EntityUIDEntry>, AllocError>
+    ensures { IfOk result (λ entry. option_map requests.part_of entry ≡ world.part_of (option_map (λ uid. uid.now.value) uid.entry) entity_type) }
 {
     match uid {
-        None => Some(AskedPart::Missing(entity_type)),
+        None => Ok(Some(entity_unknown(entity_type))),
         Some(uid) => match entity_type {
-            None => Some(AskedPart::Given(uid)),
-            Some(_) => None,
+            None => Ok(Some(entity_given(uid)?)),
+            Some(_) => Ok(None),
         },
     }
 }
 
 // The principal or the resource, by what stands beside its own key and beside that of its type.
-fn typed_part<'e>(
+fn typed_entity(
     alloc: Global,
-    uid: Option<&'e Expr>,
+    uid: Option<&Expr>,
     entity_type: Option<&Expr>,
-) -> Result<Option<AskedPart<'e>>, AllocError>
-    ensures { IfOk result (λ part. option_map part_asked part ≡
+) -> Result<Option<EntityUIDEntry>, AllocError>
+    ensures { IfOk result (λ entry. option_map requests.part_of entry ≡
         world.part_with (world.if_there world.entity_of (tree_in uid.entry)) (world.if_there world.type_named (tree_in entity_type.entry))) }
 {
     let Some(uid) = entity_if_given(uid) else {
@@ -160,14 +177,17 @@ fn typed_part<'e>(
     let Some(entity_type) = type_if_given(alloc, entity_type)? else {
         return Ok(None);
     };
-    Ok(asked_part(uid, entity_type))
+    entity_asked(uid, entity_type)
 }
 
 // The action, of which no type is stated.
-fn untyped_part(uid: Option<&Expr>) -> Option<AskedPart<'_>>
-    ensures { option_map part_asked result ≡ world.part_with (world.if_there world.entity_of (tree_in uid.entry)) (Some None) }
+fn untyped_entity(uid: Option<&Expr>) -> Result<Option<EntityUIDEntry>, AllocError>
+    ensures { IfOk result (λ entry. option_map requests.part_of entry ≡ world.part_with (world.if_there world.entity_of (tree_in uid.entry)) (Some None)) }
 {
-    asked_part(entity_if_given(uid)?, None)
+    let Some(uid) = entity_if_given(uid) else {
+        return Ok(None);
+    };
+    entity_asked(uid, None)
 }
 
 fn ask_fields<'e>(
@@ -177,13 +197,13 @@ fn ask_fields<'e>(
     ensures question { (fs : Fields) → LendsEach fs fields.entry → IfOk result (λ body. option_map question_of body ≡ world.question_fields fs) }
     ensures lent { (fs : Fields) → LendsEach fs fields.entry → IfOk result (λ body. IfSome body (λ body. LendsFrom fs body.context)) }
 {
-    let Some(principal) = typed_part(alloc, fields.principal, fields.principal_type)? else {
+    let Some(principal) = typed_entity(alloc, fields.principal, fields.principal_type)? else {
         return Ok(None);
     };
-    let Some(action) = untyped_part(fields.action) else {
+    let Some(action) = untyped_entity(fields.action)? else {
         return Ok(None);
     };
-    let Some(resource) = typed_part(alloc, fields.resource, fields.resource_type)? else {
+    let Some(resource) = typed_entity(alloc, fields.resource, fields.resource_type)? else {
         return Ok(None);
     };
     let Some(context) = context_if_given(fields.context) else {
@@ -201,7 +221,7 @@ fn ask_fields<'e>(
 /// `resource`, with a record for `context` or none, with names of types for some of `principal_type` and
 /// `resource_type`, each where the entity itself isn't given, and with nothing else. Refused for memory
 /// alone.
-pub fn ask_body(alloc: Global, expr: &Expr) -> Result<Option<AskBody<'_>>, AllocError>
+pub(crate) fn ask_body(alloc: Global, expr: &Expr) -> Result<Option<AskBody<'_>>, AllocError>
     ensures question { IfOk result (λ body. option_map question_of body ≡ world.ask_body (bare expr.now)) }
     ensures lent { IfOk result (λ body. IfSome body (λ body. LendsContext (bare expr.now) body.context)) }
 {

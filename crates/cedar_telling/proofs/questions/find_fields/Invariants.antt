@@ -3,8 +3,8 @@ use Rattle.std.proofs.Common.{◌≡◌}
 use Rattle.cedar_trees.specs.Bare.{bare_entries}
 use Rattle.cedar_world.specs.Bodies.{are_among, question_keys}
 use Rattle.cedar_held.specs.Lent.{fields_in}
-use Rattle.cedar_held.proofs.Asked.{FoundSoFar}
-use Rattle.cedar_held.proofs.questions.find_fields.Given as goal
+use Rattle.cedar_telling.proofs.FoundFields.{FoundSoFar}
+use Rattle.cedar_telling.proofs.questions.find_fields.Given as goal
 
 abbrev pub invariant-loop-key : goal.invariant-loop-key
 invariant-loop-key l = record {
