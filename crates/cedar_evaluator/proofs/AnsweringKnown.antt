@@ -1,5 +1,5 @@
 -- What a response says of a request that gives all that the conditions mention.
-use Rattle.std.proofs.Common.{◌≡◌, ℕ, Bool, true, false, ◌&&◌, ◌||◌, List, [], ◌∷◌, map, refl, sym, ◌∙◌, ap, subst}
+use Rattle.std.proofs.Common.{◌≡◌, ℕ, Bool, false, ◌||◌, List, [], ◌∷◌, map, refl, sym, ◌∙◌, ap, subst}
 use Rattle.std.specs.List.{AllByRecursion, filter_map}
 use Rattle.cedar_language.specs.Answering.{Effect, Judged, is_permit, is_residual, some, residual_permit, residual_forbid, Fills, Filled, nothing, a_policy, RulesAreExact}
 use Rattle.cedar_language.specs.Authorization.{Known}

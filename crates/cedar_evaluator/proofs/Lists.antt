@@ -1,5 +1,5 @@
 -- Booleans, and members of lists.
-use Rattle.std.proofs.Common.{◌≡◌, ◌⊎◌, inl, inr, ℕ, zero, suc, ◌<◌, arith, Bool, true, false, ◌&&◌, ◌||◌, List, [], ◌∷◌, map, length, get_or, Contains, refl, sym, ◌∙◌, ap, true≢false}
+use Rattle.std.proofs.Common.{◌≡◌, ◌⊎◌, inl, inr, ℕ, zero, suc, ◌<◌, arith, Bool, true, List, [], ◌∷◌, map, length, get_or, Contains, refl, sym, ◌∙◌, ap, true≢false}
 use Rattle.cedar_language.specs.Answering.{Judged, some}
 pub use Rattle.cedar_lemmas.proofs.Booleans.{or_either as or_cases, and_first as and_left, and_second as and_right}
 pub use Rattle.std.proofs.lemmas.Bool.{or_left, or_right, and_from as and_both}

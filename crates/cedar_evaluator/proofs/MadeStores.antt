@@ -1,7 +1,6 @@
 -- What facts have of a store of built values is made again.
 use Rattle.std.proofs.Common.{◌≡◌, ◌∙◌, sym, ap, subst, Option, Some, None, option_map}
 use Rattle.std.specs.Prelude.{IfSome}
-use Rattle.std.specs.FinMap as finite
 use Rattle.either.specs.declared.Either.{Either}
 use Rattle.either.specs.declared.Either.TheVariants.{Left}
 use Rattle.cedar_language.specs.Constructing.{the_constructor}

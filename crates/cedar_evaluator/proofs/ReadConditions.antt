@@ -1,6 +1,6 @@
 -- Conditions that are read: a scope calls nothing, and the clauses behind it are read.
 use Rattle.std.proofs.Common.{◌≡◌, ◌∙◌, Bool, true, false, Option, Some, None, option_map, List, [], ◌∷◌, map, inl, inr, refl, sym, ap, subst}
-use Rattle.std.specs.Prelude.{◌||◌, Result, Ok, Err, IfSome}
+use Rattle.std.specs.Prelude.{Result, Ok, Err, IfSome}
 use Rattle.either.specs.declared.Either.{Either}
 use Rattle.cedar_language.specs.Facts.{Facts}
 use Rattle.cedar_language.specs.Uid.{Uid}

@@ -1,7 +1,6 @@
 -- The condition of a policy whose scope holds nests as deep as its clauses.
 use Rattle.std.proofs.Common.{◌≡◌, ◌≤◌, ◌∙◌, arith, Bool, true, false, Option, Some, option_map, List, [], ◌∷◌, map, refl, sym, ap, subst}
 use Rattle.std.proofs.lemmas.Bool.{or_from}
-use Rattle.std.specs.Prelude.{◌&&◌}
 use Rattle.cedar_language.specs.Uid.{Uid}
 use Rattle.cedar_language.specs.Tree.{Boolean, Entity, Principal, Resource, PrincipalSlot, ResourceSlot, Variable, SlotId, Tree, Lit, And}
 use Rattle.cedar_language.specs.Value.{Plain}
