@@ -30,7 +30,8 @@ last_found [] e n = by (same_name (entity_name e) n)
 last_found (x ∷ es) e n = by (same_name (entity_name x) n) refl (same_name (entity_name e) n) refl (last_found es e n)
   where
     by : (b : Bool) → same_name (entity_name x) n ≡ b → (c : Bool) → same_name (entity_name e) n ≡ c
-        → option_map entity_name (find (λ y. same_name (entity_name y) n) (es ++ e ∷ [])) ≡ cond c (Some (entity_name e)) (option_map entity_name (find (λ y. same_name (entity_name y) n) es))
+        → option_map entity_name (find (λ y. same_name (entity_name y) n) (es ++ e ∷ [])) ≡ cond c (Some (entity_name e))
+        (option_map entity_name (find (λ y. same_name (entity_name y) n) es))
         → option_map entity_name (cond b (Some x) (find (λ y. same_name (entity_name y) n) (es ++ e ∷ [])))
         ≡ cond c (Some (entity_name e)) (option_map entity_name (cond b (Some x) (find (λ y. same_name (entity_name y) n) es)))
     by true f true g ih = ap Some (name_is (entity_name x) n f ∙ sym (name_is (entity_name e) n g))
@@ -51,7 +52,8 @@ one_name es i e name old new low here is before put =
 
 -- ---- one more that is found
 
-last_named : (c : EntityNames) (namespace : Name) (ps : List Name) (p : Name) → all_named c namespace (ps ++ p ∷ []) ≡ all_named c namespace ps ++ option_to_list (first_named c namespace p)
+last_named : (c : EntityNames) (namespace : Name) (ps : List Name) (p : Name)
+    → all_named c namespace (ps ++ p ∷ []) ≡ all_named c namespace ps ++ option_to_list (first_named c namespace p)
 last_named c namespace [] p = by (first_named c namespace p)
   where
     by : (o : Option Name) → cons_option o [] ≡ option_to_list o
@@ -59,12 +61,14 @@ last_named c namespace [] p = by (first_named c namespace p)
     by None = refl
 last_named c namespace (q ∷ ps) p = ap (cons_option (first_named c namespace q)) (last_named c namespace ps p) ∙ by (first_named c namespace q)
   where
-    by : (o : Option Name) → cons_option o (all_named c namespace ps ++ option_to_list (first_named c namespace p)) ≡ cons_option o (all_named c namespace ps) ++ option_to_list (first_named c namespace p)
+    by : (o : Option Name) → cons_option o (all_named c namespace ps ++ option_to_list (first_named c namespace p)) ≡ cons_option o
+        (all_named c namespace ps) ++ option_to_list (first_named c namespace p)
     by (Some x) = refl
     by None = refl
 
 pub one_found : (c : EntityNames) (namespace : Name) (ps : List Path) (i : ℕ) (p : Path) (old new : List Name) → i < length ps → p ≡ get_or ps i p
-    → old ≡ all_named c namespace (paths_view (take i ps)) → new ≡ old ++ option_to_list (first_named c namespace (path_view p)) → new ≡ all_named c namespace (paths_view (take (i + 1) ps))
+    → old ≡ all_named c namespace (paths_view (take i ps)) → new ≡ old ++ option_to_list (first_named c namespace (path_view p))
+    → new ≡ all_named c namespace (paths_view (take (i + 1) ps))
 one_found c namespace ps i p old new low here e f =
     let cut : paths_view (take (i + 1) ps) ≡ paths_view (take i ps) ++ path_view p ∷ []
     = ap paths_view (take_more ps i p low ∙ ap (λ x. take i ps ++ x ∷ []) (sym here)) ∙ map-append path_view (take i ps) (p ∷ []) in

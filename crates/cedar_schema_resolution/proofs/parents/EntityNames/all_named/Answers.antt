@@ -18,5 +18,6 @@ loop-path-preserved c =
 pub returns : goal.returns
 returns c =
     let past : length c.args.paths.now ≤ c.loop-path.path-index = omega arith in
-    subst (λ ps. c.loop-path.found.items ≡ all_named c.args.self.now c.args.namespace.now (paths_view ps)) (take_all c.loop-path.path-index c.args.paths.now past)
+    subst (λ ps. c.loop-path.found.items ≡ all_named c.args.self.now c.args.namespace.now (paths_view ps))
+    (take_all c.loop-path.path-index c.args.paths.now past)
     c.loop-path.invariant.found

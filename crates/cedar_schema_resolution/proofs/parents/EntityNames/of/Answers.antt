@@ -19,4 +19,5 @@ loop-entity-preserved c =
 pub returns : goal.returns
 returns c =
     let past : length c.args.entities.now ≤ c.loop-entity.entity-index = omega arith in
-    subst (λ es. HaveNames (map entity_view es) c.loop-entity.names) (take_all c.loop-entity.entity-index c.args.entities.now past) c.loop-entity.invariant.names
+    subst (λ es. HaveNames (map entity_view es) c.loop-entity.names) (take_all c.loop-entity.entity-index c.args.entities.now past)
+    c.loop-entity.invariant.names
