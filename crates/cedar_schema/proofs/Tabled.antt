@@ -93,7 +93,8 @@ module _ (t : TypeTable) (namespace p : Name) where
 
   pub found_first : (o : Option (Option SchemaType)) (ps : List Name) → o ≡ first_of (get name_cmp t.declared) ps → ps ≡ places namespace p → Finds o
   found_first o ps e f =
-      ap (option_map (option_map type_view)) e ∙ sym (mapped_first (get name_cmp t.declared) (option_map type_view) (entry_at t) (λ n. refl) ps) ∙ ap (first_of (entry_at t)) f
+      ap (option_map (option_map type_view)) e ∙ sym (mapped_first (get name_cmp t.declared) (option_map type_view) (entry_at t) (λ n. refl) ps)
+      ∙ ap (first_of (entry_at t)) f
 
   -- and then its type
   pub type_found : (o : Option SchemaType) → Finds (Some o) → option_map type_view o ≡ named_type t namespace p

@@ -35,7 +35,8 @@ module _ (t : TypeTable) (namespace : Name) (s : TypeSyntax) (o : Option CedarTy
       (g ∙ ap (λ r. option_map Records (all_in_order r)) (f common d l is) ∙ ap (option_map Records) (sym (fields_are common d l namespace (syntax.attributes_view v.items))))
 
 -- the attributes of a record, by a map
-pub attributes_written : (t : TypeTable) (namespace : Name) (xs : grammar.AttributesSyntax) (q : Option (List (Text × Field))) (o : Option Fields) → AreTyped t namespace xs q → o ≡ all_in_order q
+pub attributes_written : (t : TypeTable) (namespace : Name) (xs : grammar.AttributesSyntax) (q : Option (List (Text × Field))) (o : Option Fields)
+    → AreTyped t namespace xs q → o ≡ all_in_order q
     → IsWritten t namespace (grammar.a_record xs) (option_map Records o)
 attributes_written t namespace xs q o f e = λ common d l is.
     ap (option_map Records) (e ∙ ap all_in_order (f common d l is) ∙ sym (fields_are common d l namespace xs))

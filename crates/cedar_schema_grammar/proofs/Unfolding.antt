@@ -280,19 +280,26 @@ module _ (d : Declared) (l : Library) (c e : CommonType → Option CedarType) wh
     written_alike namespace (a_set t) a = ap (option_map Sets) (written_alike namespace t a)
     written_alike namespace (a_record xs) a = ap (option_map Records) (fields_alike namespace xs a)
 
-    fields_alike : (namespace : Name) (xs : AttributesSyntax) → Agree (mentions_in d l namespace xs) → written_fields c d l namespace xs ≡ written_fields e d l namespace xs
+    fields_alike : (namespace : Name) (xs : AttributesSyntax) → Agree (mentions_in d l namespace xs)
+        → written_fields c d l namespace xs ≡ written_fields e d l namespace xs
     fields_alike namespace no_attributes a = refl
     fields_alike namespace (an_attribute k p t xs) a =
-        ap (λ o. with_field k p o (written_fields c d l namespace xs)) (written_alike namespace t (λ u s m. a u s (among_front (type_name u) (mentions d l namespace t) (mentions_in d l namespace xs) m)))
-        ∙ ap (with_field k p (written e d l namespace t)) (fields_alike namespace xs (λ u s m. a u s (among_back (type_name u) (mentions d l namespace t) (mentions_in d l namespace xs) m)))
+        ap (λ o. with_field k p o (written_fields c d l namespace xs))
+        (written_alike namespace t (λ u s m. a u s (among_front (type_name u) (mentions d l namespace t) (mentions_in d l namespace xs) m)))
+        ∙ ap (with_field k p (written e d l namespace t))
+        (fields_alike namespace xs (λ u s m. a u s (among_back (type_name u) (mentions d l namespace t) (mentions_in d l namespace xs) m)))
 
 module _ (d : Declared) (l : Library) (acyclic : (n : Name) → Leads d l n n → ⊥) where
   -- by how many common types are left that don't lead to it
-  pub settles : (k : ℕ) (t : CommonType) → type_at d (type_name t) ≡ Some t → (seen : List Name) → AllApart seen → AllAmong seen (map type_name d.types) → AllLead d l seen (type_name t) →
+  pub settles : (k : ℕ) (t : CommonType) → type_at d (type_name t) ≡ Some t → (seen : List Name) → AllApart seen
+      → AllAmong seen (map type_name d.types) → AllLead d l seen (type_name t) →
       length (map type_name d.types) ≤ k + length seen → unfolded k d l t ≡ unfolded (suc k) d l t
   settles zero t e seen apart among lead h =
-      let many = no_more_than (type_name t ∷ seen) (map type_name d.types) (not_seen d l acyclic (type_name t) seen lead, apart) (name_among d l acyclic t e, among) in
+      let many = no_more_than (type_name t ∷ seen) (map type_name d.types) (not_seen d l acyclic (type_name t) seen lead, apart)
+      (name_among d l acyclic t e, among) in
       absurd (omega arith)
   settles (suc k) t e seen apart among lead h =
       written_alike d l (λ u. unfolded k d l u) (λ u. unfolded (suc k) d l u) t.namespace t.type
-      (λ u s m. let step = refers_if d l (type_name t) (type_name u) t e m in settles k u s (type_name t ∷ seen) (not_seen d l acyclic (type_name t) seen lead, apart) (name_among d l acyclic t e, among) (edge step, lead_on d l seen (type_name t) (type_name u) step lead) (omega arith))
+      (λ u s m. let step = refers_if d l (type_name t) (type_name u) t e m in settles k u s (type_name t ∷ seen)
+      (not_seen d l acyclic (type_name t) seen lead, apart) (name_among d l acyclic t e, among)
+      (edge step, lead_on d l seen (type_name t) (type_name u) step lead) (omega arith))

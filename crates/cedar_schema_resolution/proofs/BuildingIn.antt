@@ -37,11 +37,13 @@ either true false v r = refl
 either false b v r = refl
 
 pub put_twice : (own : Text) (t : CedarType) (alone in_cedar : Name) (old mid new : TypeTable) → alone ≡ own ∷ [] → in_cedar ≡ codes "__cedar" ∷ own ∷ []
-    → ((n : Name) → built_in_at mid n ≡ cond (is_at (name_cmp alone) n) (Some t) (built_in_at old n)) → ((n : Name) → built_in_at new n ≡ cond (is_at (name_cmp in_cedar) n) (Some t) (built_in_at mid n))
+    → ((n : Name) → built_in_at mid n ≡ cond (is_at (name_cmp alone) n) (Some t) (built_in_at old n))
+    → ((n : Name) → built_in_at new n ≡ cond (is_at (name_cmp in_cedar) n) (Some t) (built_in_at mid n))
     → IsBuiltIn own t old new
 put_twice own t alone in_cedar old mid new e f g h = λ n.
     h n ∙ ap (λ b. cond b (Some t) (built_in_at mid n)) (at_is_same in_cedar n ∙ ap (λ m. same_name m n) f)
-    ∙ ap (cond (same_name (codes "__cedar" ∷ own ∷ []) n) (Some t)) (g n ∙ ap (λ b. cond b (Some t) (built_in_at old n)) (at_is_same alone n ∙ ap (λ m. same_name m n) e))
+    ∙ ap (cond (same_name (codes "__cedar" ∷ own ∷ []) n) (Some t))
+    (g n ∙ ap (λ b. cond b (Some t) (built_in_at old n)) (at_is_same alone n ∙ ap (λ m. same_name m n) e))
     ∙ either (same_name (own ∷ []) n) (same_name (codes "__cedar" ∷ own ∷ []) n) (Some t) (built_in_at old n)
 
 -- ---- one before others
@@ -55,9 +57,11 @@ pub built_lower : (es : List ExtensionType) (k : ℕ) (e : ExtensionType) (old m
     → AreBuiltIn (drop k es) old mid → IsBuiltIn e.name (extension_view e) mid new → AreBuiltIn (drop (k - 1) es) old new
 built_lower es k e old mid new low high here f g =
     let up : k - 1 + 1 ≡ k = omega arith in
-    let cut : drop (k - 1) es ≡ e ∷ drop k es = drop_more es (k - 1) e (omega arith) ∙ ap (λ x. x ∷ drop (k - 1 + 1) es) (sym here) ∙ ap (λ j. e ∷ drop j es) up in
+    let cut : drop (k - 1) es ≡ e ∷ drop k es = drop_more es (k - 1) e (omega arith) ∙ ap (λ x. x ∷ drop (k - 1 + 1) es) (sym here)
+    ∙ ap (λ j. e ∷ drop j es) up in
     subst (λ xs. AreBuiltIn xs old new) (sym cut)
-    (λ n. g n ∙ ap (cond (is_built_in_as e.name n) (Some (extension_view e))) (f n) ∙ first_before (is_built_in_as e.name n) e (find (λ x. is_built_in_as x.name n) (drop k es)) (built_in_at old n))
+    (λ n. g n ∙ ap (cond (is_built_in_as e.name n) (Some (extension_view e))) (f n)
+    ∙ first_before (is_built_in_as e.name n) e (find (λ x. is_built_in_as x.name n) (drop k es)) (built_in_at old n))
 
 pub built_at_first : (es : List ExtensionType) (i : ℕ) (t : TypeTable) → length es ≤ i → AreBuiltIn (drop i es) t t
 built_at_first es i t h = subst (λ xs. AreBuiltIn xs t t) (sym (drop_all i es h)) (λ n. refl)
@@ -78,7 +82,8 @@ or_false false = refl
 
 one_word : (own s : Text) → is_built_in_as own (s ∷ []) ≡ same_text own s
 one_word own s =
-    ap (λ b. b || (same_text (codes "__cedar") s && false)) (and_true (same_text own s)) ∙ ap (λ b. same_text own s || b) (and_false (same_text (codes "__cedar") s)) ∙ or_false (same_text own s)
+    ap (λ b. b || (same_text (codes "__cedar") s && false)) (and_true (same_text own s))
+    ∙ ap (λ b. same_text own s || b) (and_false (same_text (codes "__cedar") s)) ∙ or_false (same_text own s)
 
 two_words : (own q s : Text) → is_built_in_as own (q ∷ s ∷ []) ≡ (same_text (codes "__cedar") q && same_text own s)
 two_words own q s =
@@ -129,25 +134,31 @@ chosen_alike b c l m s t o p e f g h =
     ap (λ x. chosen x l s o) e ∙ ap (λ x. chosen c x s o) f ∙ ap (λ x. chosen c m x o) g ∙ ap (chosen c m t) h
 
 module _ (l : Library) (es : List ExtensionType) (has : HasTypes l es) where
-  of_own : (s : Text) → chosen (same_text (codes "Bool") s) (same_text (codes "Long") s) (same_text (codes "String") s) (first_built_in (find (λ e. same_text e.name s) es) None) ≡ built_in l s
+  of_own : (s : Text) → chosen (same_text (codes "Bool") s) (same_text (codes "Long") s) (same_text (codes "String") s)
+      (first_built_in (find (λ e. same_text e.name s) es) None) ≡ built_in l s
   of_own s =
-      chosen_alike (same_text (codes "Bool") s) (same_text s (codes "Bool")) (same_text (codes "Long") s) (same_text s (codes "Long")) (same_text (codes "String") s) (same_text s (codes "String"))
+      chosen_alike (same_text (codes "Bool") s) (same_text s (codes "Bool")) (same_text (codes "Long") s) (same_text s (codes "Long"))
+      (same_text (codes "String") s) (same_text s (codes "String"))
       (first_built_in (find (λ e. same_text e.name s) es) None) (l.type s)
-      (text_turned (codes "Bool") s) (text_turned (codes "Long") s) (text_turned (codes "String") s) (first_of_none (find (λ e. same_text e.name s) es) ∙ sym (has s))
+      (text_turned (codes "Bool") s) (text_turned (codes "Long") s) (text_turned (codes "String") s)
+      (first_of_none (find (λ e. same_text e.name s) es) ∙ sym (has s))
 
   alike_at : (n : Name) (test : Text → Bool) → ((own : Text) → is_built_in_as own n ≡ test own)
       → all_at es n ≡ chosen (test (codes "Bool")) (test (codes "Long")) (test (codes "String")) (first_built_in (find (λ e. test e.name) es) None)
   alike_at n test f =
-      chosen_alike (is_built_in_as (codes "Bool") n) (test (codes "Bool")) (is_built_in_as (codes "Long") n) (test (codes "Long")) (is_built_in_as (codes "String") n) (test (codes "String"))
+      chosen_alike (is_built_in_as (codes "Bool") n) (test (codes "Bool")) (is_built_in_as (codes "Long") n) (test (codes "Long"))
+      (is_built_in_as (codes "String") n) (test (codes "String"))
       (first_built_in (find (λ e. is_built_in_as e.name n) es) None) (first_built_in (find (λ e. test e.name) es) None)
-      (f (codes "Bool")) (f (codes "Long")) (f (codes "String")) (ap (λ o. first_built_in o None) (found_alike (λ e. is_built_in_as e.name n) (λ e. test e.name) (λ e. f e.name) es))
+      (f (codes "Bool")) (f (codes "Long")) (f (codes "String"))
+      (ap (λ o. first_built_in o None) (found_alike (λ e. is_built_in_as e.name n) (λ e. test e.name) (λ e. f e.name) es))
 
   nowhere : (n : Name) → ((own : Text) → is_built_in_as own n ≡ false) → all_at es n ≡ None
   nowhere n f = alike_at n (λ own. false) f ∙ ap (λ o. first_built_in o None) (found_nowhere es)
 
   two : (b : Bool) (q s : Text) → same_text q (codes "__cedar") ≡ b → all_at es (q ∷ s ∷ []) ≡ cond b (built_in l s) None
   two true q s e =
-      alike_at (q ∷ s ∷ []) (λ own. same_text own s) (λ own. two_words own q s ∙ ap (λ b. b && same_text own s) (text_turned (codes "__cedar") q ∙ e)) ∙ of_own s
+      alike_at (q ∷ s ∷ []) (λ own. same_text own s) (λ own. two_words own q s ∙ ap (λ b. b && same_text own s) (text_turned (codes "__cedar") q ∙ e))
+      ∙ of_own s
   two false q s e = nowhere (q ∷ s ∷ []) (λ own. two_words own q s ∙ ap (λ b. b && same_text own s) (text_turned (codes "__cedar") q ∙ e))
 
   pub built_in_is : (n : Name) → all_at es n ≡ built_in_path l n

@@ -29,7 +29,8 @@ tells : (d : Declared) (n : Name) (e : ResolutionError) → ToldAt n e → ((l :
 tells d n (error.CycleInCommonTypeReferences m) told f = λ l. subst (λ k. type_reaches d l k k ≡ true) (sym told) (f l)
 tells d n error.Memory told f = tt
 
-module _ (d : Declarations) (c : CommonNumbers) (numbers : AreNumbersOf (declared_view d) c) (edges : List (Vec ℕ)) (mentioned : AreMentioned c (map type_view d.types.items) edges) where
+module _ (d : Declarations) (c : CommonNumbers) (numbers : AreNumbersOf (declared_view d) c) (edges : List (Vec ℕ))
+    (mentioned : AreMentioned c (map type_view d.types.items) edges) where
   are : (l : Library) → AreMentionsOf (declared_view d) l (map type_view d.types.items) edges
   are l = mentioned (declared_view d) l numbers
 
@@ -42,7 +43,8 @@ module _ (d : Declarations) (c : CommonNumbers) (numbers : AreNumbersOf (declare
   pub cycle_below : (i : ℕ) → Reaches (HasTarget edges) i i → i < length d.types.items
   cycle_below i r = subst (λ n. i < n) (length-map d.types.items type_view) (ordered.below (declared_view d) some_library edges (are some_library) i r)
 
-  pub cycle_told : CyclesAreFound → (i : ℕ) (t : DeclaredType) (e : ResolutionError) → t ≡ get_or d.types.items i t → Reaches (HasTarget edges) i i → ToldAt (type_name (type_view t)) e → TellsCycle (declared_view d) e
+  pub cycle_told : CyclesAreFound → (i : ℕ) (t : DeclaredType) (e : ResolutionError) → t ≡ get_or d.types.items i t → Reaches (HasTarget edges) i i
+      → ToldAt (type_name (type_view t)) e → TellsCycle (declared_view d) e
   cycle_told found i t e at r told = tells (declared_view d) (type_name (type_view t)) e told
       (λ l. ordered.told (declared_view d) l edges (are l) found i (type_view t) (read_at d.types.items i t (cycle_below i r) at) r)
 
@@ -53,7 +55,8 @@ module _ (d : Declarations) (c : CommonNumbers) (numbers : AreNumbersOf (declare
     pub no_cycle : CyclesAreFound → IsAcyclic (declared_view d)
     no_cycle found = λ l n. ordered.acyclic (declared_view d) l edges (are l) order is found n
 
-    pub filled : CyclesAreFound → CommonTypesSettle → (old new : TypeTable) → AreResolved (declared_view d) c order old new → IsFilled (declared_view d) old new
+    pub filled : CyclesAreFound → CommonTypesSettle → (old new : TypeTable) → AreResolved (declared_view d) c order old new
+        → IsFilled (declared_view d) old new
     filled found settle old new done = λ l table.
         same_table (declared_view d) _ (unfolded (length (declared_view d).types) (declared_view d) l) l new
         (λ n u e. ordered.each_settled (declared_view d) l edges (are l) order is found settle n u e) (done l (λ t. None) numbers table)

@@ -4,6 +4,7 @@ pub mod Filling
 pub mod Mentioning
 pub mod Numbering
 pub mod Ordered
+pub mod Parenting
 pub mod Putting
 pub mod Resolving
 pub mod Shaping

@@ -25,14 +25,16 @@ use Rattle.cedar_schema_resolution.proofs.Numbering.{MayBeNumbered, numbered}
 -- ---- a name
 
 -- a common type that is found has a number
-one_number : (d : Declared) (t : CommonType) → type_at d (type_name t) ≡ Some t → map Some (option_to_list (number_of d (type_name t))) ≡ number_of d (type_name t) ∷ []
+one_number : (d : Declared) (t : CommonType) → type_at d (type_name t) ≡ Some t
+    → map Some (option_to_list (number_of d (type_name t))) ≡ number_of d (type_name t) ∷ []
 one_number d t e = by (numbered 0 d.types (type_name t))
   where
     by : MayBeNumbered 0 d.types (type_name t) → map Some (option_to_list (number_of d (type_name t))) ≡ number_of d (type_name t) ∷ []
     by (inl r) = absurd (cc (sym e ∙ r.0))
     by (inr r) = subst (λ o. map Some (option_to_list o) ≡ o ∷ []) (sym r.2.number) refl
 
-number_is : (d : Declared) (o : Option Referent) (b : Option CedarType) → ((t : CommonType) → or_else o (option_map to_type b) ≡ Some (to_common t) → type_at d (type_name t) ≡ Some t)
+number_is : (d : Declared) (o : Option Referent) (b : Option CedarType)
+    → ((t : CommonType) → or_else o (option_map to_type b) ≡ Some (to_common t) → type_at d (type_name t) ≡ Some t)
     → map Some (option_to_list (number_in (option_map (number_for d) o))) ≡ map (number_of d) (common_name (or_else o (option_map to_type b)))
 number_is d (Some (to_common t)) b found = one_number d t (found t refl)
 number_is d (Some (to_type t)) b found = refl
@@ -48,15 +50,19 @@ named_is d l c are namespace p =
 -- ---- a type
 
 module _ (c : CommonNumbers) (namespace : Name) (s : TypeSyntax) (old new : List ℕ) where
-  pub mentioned_named : (p : Path) → s ≡ types.Named p → new ≡ with_number old (named_number c namespace (syntax.path_view p)) → IsMentioned c namespace (syntax.type_view s) old new
+  pub mentioned_named : (p : Path) → s ≡ types.Named p → new ≡ with_number old (named_number c namespace (syntax.path_view p))
+      → IsMentioned c namespace (syntax.type_view s) old new
   mentioned_named p e f = λ d l are.
       subst (λ x. AreBehind d (mentions d l namespace x) old new) (sym (ap syntax.type_view e ∙ named_view p))
-      (ap (map Some) f ∙ map-append Some old (option_to_list (named_number c namespace (syntax.path_view p))) ∙ ap (λ xs. map Some old ++ xs) (named_is d l c are namespace (syntax.path_view p)))
+      (ap (map Some) f ∙ map-append Some old (option_to_list (named_number c namespace (syntax.path_view p)))
+      ∙ ap (λ xs. map Some old ++ xs) (named_is d l c are namespace (syntax.path_view p)))
 
-  pub mentioned_set : (b : Box TypeSyntax Global) → s ≡ types.Set b → IsMentioned c namespace (syntax.type_view b.value) old new → IsMentioned c namespace (syntax.type_view s) old new
+  pub mentioned_set : (b : Box TypeSyntax Global) → s ≡ types.Set b → IsMentioned c namespace (syntax.type_view b.value) old new
+      → IsMentioned c namespace (syntax.type_view s) old new
   mentioned_set b e f = λ d l are. subst (λ x. AreBehind d (mentions d l namespace x) old new) (sym (ap syntax.type_view e ∙ set_view b)) (f d l are)
 
-  pub mentioned_record : (v : Vec Attribute Global) → s ≡ types.Record v → IsMentionedIn c namespace (syntax.attributes_view v.items) old new → IsMentioned c namespace (syntax.type_view s) old new
+  pub mentioned_record : (v : Vec Attribute Global) → s ≡ types.Record v → IsMentionedIn c namespace (syntax.attributes_view v.items) old new
+      → IsMentioned c namespace (syntax.type_view s) old new
   mentioned_record v e f = λ d l are. subst (λ x. AreBehind d (mentions d l namespace x) old new) (sym (ap syntax.type_view e ∙ record_view v)) (f d l are)
 
 -- ---- attributes, one after another
@@ -80,22 +86,28 @@ module _ (c : CommonNumbers) (namespace : Name) (xs : List Attribute) where
   pub none_mentioned : (old : List ℕ) → SoFar 0 old old
   none_mentioned old = λ d l are. sym (append-nil (map Some old))
 
-  pub one_mentioned : (i : ℕ) (a : Attribute) (old mid new : List ℕ) → i < length xs → a ≡ get_or xs i a → SoFar i old mid → IsMentioned c namespace (syntax.type_view (out-Attribute a).written) mid new → SoFar (i + 1) old new
+  pub one_mentioned : (i : ℕ) (a : Attribute) (old mid new : List ℕ) → i < length xs → a ≡ get_or xs i a → SoFar i old mid
+      → IsMentioned c namespace (syntax.type_view (out-Attribute a).written) mid new → SoFar (i + 1) old new
   one_mentioned i a old mid new low here f g = λ d l are.
       let ws = map syntax.attribute_view (take i xs) in
       let w = syntax.attribute_view a in
       let cut : map syntax.attribute_view (take (i + 1) xs) ≡ ws ++ w ∷ []
-      = ap (map syntax.attribute_view) (take_more xs i a low ∙ ap (λ x. take i xs ++ x ∷ []) (sym here)) ∙ map-append syntax.attribute_view (take i xs) (a ∷ []) in
-      let all : mentions_in d l namespace (syntax.attributes_view (take (i + 1) xs)) ≡ mentions_in d l namespace (syntax.attributes_of ws) ++ mentions d l namespace (syntax.type_view (out-Attribute a).written)
+      = ap (map syntax.attribute_view) (take_more xs i a low ∙ ap (λ x. take i xs ++ x ∷ []) (sym here))
+      ∙ map-append syntax.attribute_view (take i xs) (a ∷ []) in
+      let all : mentions_in d l namespace (syntax.attributes_view (take (i + 1) xs)) ≡ mentions_in d l namespace (syntax.attributes_of ws) ++ mentions
+      d l namespace (syntax.type_view (out-Attribute a).written)
       = ap (λ vs. mentions_in d l namespace (syntax.attributes_of vs)) cut ∙ last_mentions d l namespace ws w
       ∙ ap (λ (v : syntax.Written). mentions_in d l namespace (syntax.attributes_of ws) ++ mentions d l namespace v.type) (parts_view a) in
       subst (λ ns. AreBehind d ns old new) (sym all)
-      (behind_behind d (mentions_in d l namespace (syntax.attributes_of ws)) (mentions d l namespace (syntax.type_view (out-Attribute a).written)) old mid new (f d l are) (g d l are))
+      (behind_behind d (mentions_in d l namespace (syntax.attributes_of ws)) (mentions d l namespace (syntax.type_view (out-Attribute a).written)) old
+      mid new (f d l are) (g d l are))
 
 -- ---- common types, one after another
 
-pub one_row : (c : CommonNumbers) (ts : List DeclaredType) (i : ℕ) (t : DeclaredType) (old new : List (Vec ℕ Global)) (row : Vec ℕ Global) → i < length ts → t ≡ get_or ts i t
-    → AreMentioned c (map type_view (take i ts)) old → IsMentioned c (type_view t).namespace (type_view t).type [] row.items → new ≡ old ++ row ∷ [] → AreMentioned c (map type_view (take (i + 1) ts)) new
+pub one_row : (c : CommonNumbers) (ts : List DeclaredType) (i : ℕ) (t : DeclaredType) (old new : List (Vec ℕ Global)) (row : Vec ℕ Global)
+    → i < length ts → t ≡ get_or ts i t
+    → AreMentioned c (map type_view (take i ts)) old → IsMentioned c (type_view t).namespace (type_view t).type [] row.items → new ≡ old ++ row ∷ []
+    → AreMentioned c (map type_view (take (i + 1) ts)) new
 one_row c ts i t old new row low here f g e = λ d l are.
     let cut : map type_view (take (i + 1) ts) ≡ map type_view (take i ts) ++ type_view t ∷ []
     = ap (map type_view) (take_more ts i t low ∙ ap (λ x. take i ts ++ x ∷ []) (sym here)) ∙ map-append type_view (take i ts) (t ∷ []) in

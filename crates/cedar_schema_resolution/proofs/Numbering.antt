@@ -26,17 +26,21 @@ none_or : (b : Bool) (e : EntityType) (r : Option (Option ℕ)) → cond b (Some
 none_or true e r = refl
 none_or false e r = refl
 
-pub none_put : (e : EntityType) (name : Name) (old new : CommonNumbers) → name ≡ entity_name e → ((n : Name) → number_at new n ≡ cond (is_at (name_cmp name) n) (Some None) (number_at old n)) → HasNone (e ∷ []) old new
+pub none_put : (e : EntityType) (name : Name) (old new : CommonNumbers) → name ≡ entity_name e
+    → ((n : Name) → number_at new n ≡ cond (is_at (name_cmp name) n) (Some None) (number_at old n)) → HasNone (e ∷ []) old new
 none_put e name old new is put n =
-    put n ∙ ap (λ b. cond b (Some None) (number_at old n)) (at_is_same name n ∙ ap (λ m. same_name m n) is) ∙ none_or (same_name (entity_name e) n) e (number_at old n)
+    put n ∙ ap (λ b. cond b (Some None) (number_at old n)) (at_is_same name n ∙ ap (λ m. same_name m n) is)
+    ∙ none_or (same_name (entity_name e) n) e (number_at old n)
 
 number_or : (b : Bool) (i : ℕ) (r : Option (Option ℕ)) → cond b (Some (Some i)) r ≡ or_else (option_map Some (cond b (Some i) None)) r
 number_or true i r = refl
 number_or false i r = refl
 
-pub number_put : (t : CommonType) (i : ℕ) (name : Name) (old new : CommonNumbers) → name ≡ type_name t → ((n : Name) → number_at new n ≡ cond (is_at (name_cmp name) n) (Some (Some i)) (number_at old n)) → AreNumbered i (t ∷ []) old new
+pub number_put : (t : CommonType) (i : ℕ) (name : Name) (old new : CommonNumbers) → name ≡ type_name t
+    → ((n : Name) → number_at new n ≡ cond (is_at (name_cmp name) n) (Some (Some i)) (number_at old n)) → AreNumbered i (t ∷ []) old new
 number_put t i name old new is put n =
-    put n ∙ ap (λ b. cond b (Some (Some i)) (number_at old n)) (at_is_same name n ∙ ap (λ m. same_name m n) is) ∙ number_or (same_name (type_name t) n) i (number_at old n)
+    put n ∙ ap (λ b. cond b (Some (Some i)) (number_at old n)) (at_is_same name n ∙ ap (λ m. same_name m n) is)
+    ∙ number_or (same_name (type_name t) n) i (number_at old n)
 
 -- ---- one before others
 
@@ -54,22 +58,28 @@ pub none_lower : (es : List DeclaredEntity) (k : ℕ) (e : DeclaredEntity) (old 
     → HasNone (map entity_view (drop k es)) old mid → HasNone (entity_view e ∷ []) mid new → HasNone (map entity_view (drop (k - 1) es)) old new
 none_lower es k e old mid new low high here f g =
     let up : k - 1 + 1 ≡ k = omega arith in
-    let cut : drop (k - 1) es ≡ e ∷ drop k es = drop_more es (k - 1) e (omega arith) ∙ ap (λ x. x ∷ drop (k - 1 + 1) es) (sym here) ∙ ap (λ j. e ∷ drop j es) up in
+    let cut : drop (k - 1) es ≡ e ∷ drop k es = drop_more es (k - 1) e (omega arith) ∙ ap (λ x. x ∷ drop (k - 1 + 1) es) (sym here)
+    ∙ ap (λ j. e ∷ drop j es) up in
     subst (λ xs. HasNone (map entity_view xs) old new) (sym cut) (none_before (entity_view e) (map entity_view (drop k es)) old mid new f g)
 
-number_first : (b : Bool) (i : ℕ) (o : Option ℕ) (r : Option (Option ℕ)) → or_else (option_map Some (cond b (Some i) None)) (or_else (option_map Some o) r) ≡ or_else (option_map Some (cond b (Some i) o)) r
+number_first : (b : Bool) (i : ℕ) (o : Option ℕ) (r : Option (Option ℕ))
+    → or_else (option_map Some (cond b (Some i) None)) (or_else (option_map Some o) r) ≡ or_else (option_map Some (cond b (Some i) o)) r
 number_first true i o r = refl
 number_first false i o r = refl
 
-number_before : (t : CommonType) (ts : List CommonType) (i : ℕ) (old mid new : CommonNumbers) → AreNumbered (i + 1) ts old mid → AreNumbered i (t ∷ []) mid new → AreNumbered i (t ∷ ts) old new
+number_before : (t : CommonType) (ts : List CommonType) (i : ℕ) (old mid new : CommonNumbers) → AreNumbered (i + 1) ts old mid
+    → AreNumbered i (t ∷ []) mid new → AreNumbered i (t ∷ ts) old new
 number_before t ts i old mid new f g n =
-    g n ∙ ap (or_else (option_map Some (number_from i (t ∷ []) n))) (f n) ∙ number_first (same_name (type_name t) n) i (number_from (i + 1) ts n) (number_at old n)
+    g n ∙ ap (or_else (option_map Some (number_from i (t ∷ []) n))) (f n)
+    ∙ number_first (same_name (type_name t) n) i (number_from (i + 1) ts n) (number_at old n)
 
 pub number_lower : (ts : List DeclaredType) (k : ℕ) (t : DeclaredType) (old mid new : CommonNumbers) → 0 < k → k ≤ length ts → t ≡ get_or ts (k - 1) t
-    → AreNumbered k (map type_view (drop k ts)) old mid → AreNumbered (k - 1) (type_view t ∷ []) mid new → AreNumbered (k - 1) (map type_view (drop (k - 1) ts)) old new
+    → AreNumbered k (map type_view (drop k ts)) old mid → AreNumbered (k - 1) (type_view t ∷ []) mid new
+    → AreNumbered (k - 1) (map type_view (drop (k - 1) ts)) old new
 number_lower ts k t old mid new low high here f g =
     let up : k - 1 + 1 ≡ k = omega arith in
-    let cut : drop (k - 1) ts ≡ t ∷ drop k ts = drop_more ts (k - 1) t (omega arith) ∙ ap (λ x. x ∷ drop (k - 1 + 1) ts) (sym here) ∙ ap (λ j. t ∷ drop j ts) up in
+    let cut : drop (k - 1) ts ≡ t ∷ drop k ts = drop_more ts (k - 1) t (omega arith) ∙ ap (λ x. x ∷ drop (k - 1 + 1) ts) (sym here)
+    ∙ ap (λ j. t ∷ drop j ts) up in
     subst (λ xs. AreNumbered (k - 1) (map type_view xs) old new) (sym cut)
     (number_before (type_view t) (map type_view (drop k ts)) (k - 1) old mid new (subst (λ j. AreNumbered j (map type_view (drop k ts)) old mid) (sym up) f) g)
 
@@ -131,7 +141,8 @@ numbers_are d n o (inl r) =
     ap (λ x. or_else (option_map Some x) (or_else (option_map (λ e. None) o) None)) r.1 ∙ alone o
     ∙ sym (ap (λ x. option_map (number_for d) (or_else (option_map to_common x) (option_map (λ e. to_type (Entities (entity_name e))) o))) r.0)
   where
-    alone : (p : Option EntityType) → or_else (option_map (λ e. None) p) None ≡ option_map (number_for d) (option_map (λ e. to_type (Entities (entity_name e))) p)
+    alone : (p : Option EntityType) → or_else (option_map (λ e. None) p) None ≡ option_map (number_for d)
+        (option_map (λ e. to_type (Entities (entity_name e))) p)
     alone (Some e) = refl
     alone None = refl
 numbers_are d n o (inr r) =
@@ -139,7 +150,8 @@ numbers_are d n o (inr r) =
     ∙ ap Some (sym (r.2.number) ∙ ap (number_of d) (sym r.2.is))
     ∙ sym (ap (λ x. option_map (number_for d) (or_else (option_map to_common x) (option_map (λ e. to_type (Entities (entity_name e))) o))) r.2.found)
 
-pub numbers_are_of : (d : Declared) (empty mid new : CommonNumbers) → ((n : Name) → number_at empty n ≡ None) → HasNone d.entities empty mid → AreNumbered 0 d.types mid new → AreNumbersOf d new
+pub numbers_are_of : (d : Declared) (empty mid new : CommonNumbers) → ((n : Name) → number_at empty n ≡ None) → HasNone d.entities empty mid
+    → AreNumbered 0 d.types mid new → AreNumbersOf d new
 numbers_are_of d empty mid new nothing none more n =
     more n ∙ ap (or_else (option_map Some (number_of d n))) (none n ∙ ap (or_else (option_map (λ e. None) (entity_at d n))) (nothing n))
     ∙ numbers_are d n (entity_at d n) (numbered 0 d.types n)

@@ -28,7 +28,8 @@ use Rattle.cedar_schema_resolution.proofs.Resolving.{IsCommon, common_at, common
 -- ---- lists of numbers and of names
 
 -- what is mentioned has its number among the targets
-pub target_of : (f : Name → Option ℕ) (ts : List ℕ) (ms : List Name) → map Some ts ≡ map f ms → (m : Name) → IsAmong m ms → (q : ℕ) × StandsIn ts q × (f m ≡ Some q)
+pub target_of : (f : Name → Option ℕ) (ts : List ℕ) (ms : List Name) → map Some ts ≡ map f ms → (m : Name) → IsAmong m ms
+    → (q : ℕ) × StandsIn ts q × (f m ≡ Some q)
 target_of f ts [] e m a = absurd a
 target_of f [] (k ∷ ms) e m a = absurd (cc e)
 target_of f (t ∷ ts) (k ∷ ms) e m (inl a) =
@@ -71,7 +72,8 @@ module _ (d : Declared) (l : Library) (edges : List (Vec ℕ)) (are : AreMention
   targets_are : (i : ℕ) (t : CommonType) → slice_get d.types i ≡ Some t → map Some (targets_of edges i) ≡ mentioned_numbers d l t
   targets_are i t e =
       let row = map_is (λ (r : Vec ℕ). map Some r.items) (slice_get edges i) (mentioned_numbers d l t)
-      (sym (slice_get-map (λ (r : Vec ℕ). map Some r.items) edges i) ∙ ap (λ rs. slice_get rs i) are ∙ slice_get-map (mentioned_numbers d l) d.types i ∙ ap (option_map (mentioned_numbers d l)) e) in
+      (sym (slice_get-map (λ (r : Vec ℕ). map Some r.items) edges i) ∙ ap (λ rs. slice_get rs i) are ∙ slice_get-map (mentioned_numbers d l) d.types i
+      ∙ ap (option_map (mentioned_numbers d l)) e) in
       ap (λ o. map Some (option_map_or (λ (r : Vec ℕ). r.items) o [])) row.1 ∙ row.2
 
   -- where an edge leads from there is a common type
@@ -79,7 +81,8 @@ module _ (d : Declared) (l : Library) (edges : List (Vec ℕ)) (are : AreMention
   source_of a b h = by (slice_get_cases edges a).1 (slice_get_cases d.types a).1
     where
       by : ((x : Vec ℕ) × (a < length edges) × (slice_get edges a ≡ Some x) × (get_or edges a x ≡ x)) ⊎ ((length edges ≤ a) × (slice_get edges a ≡ None))
-          → ((x : CommonType) × (a < length d.types) × (slice_get d.types a ≡ Some x) × (get_or d.types a x ≡ x)) ⊎ ((length d.types ≤ a) × (slice_get d.types a ≡ None))
+          → ((x : CommonType) × (a < length d.types) × (slice_get d.types a ≡ Some x) × (get_or d.types a x ≡ x)) ⊎ ((length d.types ≤ a) × (slice_get
+          d.types a ≡ None))
           → (t : CommonType) × (slice_get d.types a ≡ Some t)
       by r (inl s) = (s.0, s.2)
       by (inl r) (inr s) =
@@ -96,7 +99,8 @@ module _ (d : Declared) (l : Library) (edges : List (Vec ℕ)) (are : AreMention
   abbrev pub IsFirst : ℕ → CommonType → Type 0
   IsFirst i t = IsCommon d (type_name t) t i
 
-  leads_to : (a b : ℕ) (t : CommonType) → slice_get d.types a ≡ Some t → HasTarget edges a b → (m : Name) × IsAmong m (mentions d l t.namespace t.type) × (number_of d m ≡ Some b)
+  leads_to : (a b : ℕ) (t : CommonType) → slice_get d.types a ≡ Some t → HasTarget edges a b
+      → (m : Name) × IsAmong m (mentions d l t.namespace t.type) × (number_of d m ≡ Some b)
   leads_to a b t e h = mention_of (number_of d) (targets_of edges a) (mentions d l t.namespace t.type) (targets_are a t e) b h.0 h.1 h.2
 
   first_of_number : (m : Name) (b : ℕ) → number_of d m ≡ Some b → (u : CommonType) × IsFirst b u × (type_name u ≡ m)
@@ -121,20 +125,23 @@ module _ (d : Declared) (l : Library) (edges : List (Vec ℕ)) (are : AreMention
   below i r = let u = ends i i r in slice_get_within d.types i u.0 u.1.at
 
   -- an edge from the first of its name is to what it mentions
-  one_edge : (a b : ℕ) → HasTarget edges a b → (t : CommonType) → IsFirst a t → (u : CommonType) × IsFirst b u × (refers d l (type_name t) (type_name u) ≡ true)
+  one_edge : (a b : ℕ) → HasTarget edges a b → (t : CommonType) → IsFirst a t
+      → (u : CommonType) × IsFirst b u × (refers d l (type_name t) (type_name u) ≡ true)
   one_edge a b h t f =
       let m = leads_to a b t f.at h in
       let u = first_of_number m.0 b m.2 in
       (u.0, u.1, refers_if d l (type_name t) (type_name u.0) t f.found (subst (λ n. IsAmong n (mentions d l t.namespace t.type)) (sym u.2) m.1))
 
-  chain : (a b : ℕ) → Reaches (HasTarget edges) a b → (t : CommonType) → IsFirst a t → (u : CommonType) × IsFirst b u × Reaches (Edge (refers d l)) (type_name t) (type_name u)
+  chain : (a b : ℕ) → Reaches (HasTarget edges) a b → (t : CommonType) → IsFirst a t
+      → (u : CommonType) × IsFirst b u × Reaches (Edge (refers d l)) (type_name t) (type_name u)
   chain a b (edge h) t f = let u = one_edge a b h t f in (u.0, u.1, edge u.2)
   chain a z (further {b} h r) t f =
       let u = one_edge a b h t f in
       let v = chain b z r u.0 u.1 in
       (v.0, v.1, further u.2 v.2)
 
-  pub told : CyclesAreFound → (i : ℕ) (t : CommonType) → slice_get d.types i ≡ Some t → Reaches (HasTarget edges) i i → type_reaches d l (type_name t) (type_name t) ≡ true
+  pub told : CyclesAreFound → (i : ℕ) (t : CommonType) → slice_get d.types i ≡ Some t → Reaches (HasTarget edges) i i
+      → type_reaches d l (type_name t) (type_name t) ≡ true
   told found i t e r =
       let u = ends i i r in
       let one : u.0 ≡ t = cc (sym u.1.at ∙ e) in
@@ -166,7 +173,8 @@ module _ (d : Declared) (l : Library) (edges : List (Vec ℕ)) (are : AreMention
         let q = target_of (number_of d) (targets_of edges i) (mentions d l t.0.namespace t.0.type) (targets_are i t.0 t.1.at) m among in
         (q.0, q.2, q.1)
 
-    steps : (n m : Name) (i : ℕ) → number_of d n ≡ Some i → Reaches (Edge (refers d l)) n m → (j : ℕ) × (number_of d m ≡ Some j) × Reaches (HasTarget edges) i j
+    steps : (n m : Name) (i : ℕ) → number_of d n ≡ Some i → Reaches (Edge (refers d l)) n m
+        → (j : ℕ) × (number_of d m ≡ Some j) × Reaches (HasTarget edges) i j
     steps n m i e (edge h) =
         let q = one_step n m i e h in
         (q.0, q.1, edge q.2)
@@ -211,10 +219,12 @@ module _ (d : Declared) (l : Library) (edges : List (Vec ℕ)) (are : AreMention
 
     next_is : (k : ℕ) → k < length order → (t : CommonType) → so_far (k + 1) t ≡ with_type d l (so_far k) (slice_index order k) t
     next_is k low t =
-        ap (λ xs. with_types d l (λ u. None) xs t) (take_more order k 0 low) ∙ ap (λ (f : CommonType → Option CedarType). f t) (types_last d l (λ u. None) (take k order) (slice_index order k))
+        ap (λ xs. with_types d l (λ u. None) xs t) (take_more order k 0 low)
+        ∙ ap (λ (f : CommonType → Option CedarType). f t) (types_last d l (λ u. None) (take k order) (slice_index order k))
 
     module _ (found : CyclesAreFound) (settle : CommonTypesSettle) where
-      mentioned_is : (k i : ℕ) (t : CommonType) → k < length order → slice_index order k ≡ i → IsFirst i t → Settled k → (u : CommonType) → type_at d (type_name u) ≡ Some u
+      mentioned_is : (k i : ℕ) (t : CommonType) → k < length order → slice_index order k ≡ i → IsFirst i t → Settled k → (u : CommonType)
+          → type_at d (type_name u) ≡ Some u
           → IsAmong (type_name u) (mentions d l t.namespace t.type) → so_far k u ≡ unfolded (length d.types) d l u
       mentioned_is k i t low here f before u e m =
           let q = target_of (number_of d) (targets_of edges i) (mentions d l t.namespace t.type) (targets_are i t f.at) (type_name u) m in
@@ -223,7 +233,8 @@ module _ (d : Declared) (l : Library) (edges : List (Vec ℕ)) (are : AreMention
           before u q.0 (subst (λ a. IsFirst a u) same j.1) (is.first k q.0 low (subst (λ a. HasTarget edges a q.0) (sym here) q.1))
 
       -- the one whose turn it is
-      turn : (k i : ℕ) (t : CommonType) → k < length order → slice_index order k ≡ i → IsFirst i t → Settled k → with_type d l (so_far k) i t ≡ unfolded (length d.types) d l t
+      turn : (k i : ℕ) (t : CommonType) → k < length order → slice_index order k ≡ i → IsFirst i t → Settled k
+          → with_type d l (so_far k) i t ≡ unfolded (length d.types) d l t
       turn k i t low here f before =
           ap (λ b. cond b (written (so_far k) d l t.namespace t.type) (so_far k t)) (its_number (number_of d (type_name t)) i f.number)
           ∙ written_alike d l (so_far k) (unfolded (length d.types) d l) t.namespace t.type (mentioned_is k i t low here f before)

@@ -25,7 +25,8 @@ or_false false = refl
 
 pub put_one : (m : Name) (known : Name → Option CedarType) (name : Name) (o : Option CedarType) (old new : TypeTable) → name ≡ m → o ≡ known m
     → ((n : Name) → entry_at new n ≡ cond (is_at (name_cmp name) n) (Some o) (entry_at old n)) → ArePut (m ∷ []) known old new
-put_one m known name o old new e f put = λ n. put n ∙ ap (λ b. cond b (Some o) (entry_at old n)) (at_is_same name n ∙ ap (λ k. same_name k n) e) ∙ by n (same_name m n) refl
+put_one m known name o old new e f put = λ n. put n ∙ ap (λ b. cond b (Some o) (entry_at old n)) (at_is_same name n ∙ ap (λ k. same_name k n) e)
+    ∙ by n (same_name m n) refl
   where
     by : (n : Name) (b : Bool) → same_name m n ≡ b → cond b (Some o) (entry_at old n) ≡ cond (b || false) (Some (known n)) (entry_at old n)
     by n true g = ap Some (f ∙ ap known (name_is m n g))
@@ -47,13 +48,15 @@ over true false v r = refl
 over false true v r = refl
 over false false v r = refl
 
-pub put_more : {B : Type 0} (name : B → Name) (known : Name → Option CedarType) (bs : List B) (i : ℕ) (b : B) (old mid new : TypeTable) → i < length bs → b ≡ get_or bs i b
+pub put_more : {B : Type 0} (name : B → Name) (known : Name → Option CedarType) (bs : List B) (i : ℕ) (b : B) (old mid new : TypeTable) → i < length bs
+    → b ≡ get_or bs i b
     → ArePut (map name (take i bs)) known old mid → ArePut (name b ∷ []) known mid new → ArePut (map name (take (i + 1) bs)) known old new
 put_more name known bs i b old mid new low here f g =
     let cut : map name (take (i + 1) bs) ≡ map name (take i bs) ++ name b ∷ []
     = ap (map name) (take_more bs i b low ∙ ap (λ x. take i bs ++ x ∷ []) (sym here)) ∙ map-append name (take i bs) (b ∷ []) in
     subst (λ ns. ArePut ns known old new) (sym cut)
-    (λ n. g n ∙ ap (cond (same_name (name b) n || false) (Some (known n))) (f n) ∙ over (among (map name (take i bs)) n) (same_name (name b) n) (Some (known n)) (entry_at old n)
+    (λ n. g n ∙ ap (cond (same_name (name b) n || false) (Some (known n))) (f n)
+    ∙ over (among (map name (take i bs)) n) (same_name (name b) n) (Some (known n)) (entry_at old n)
     ∙ sym (ap (λ x. cond x (Some (known n)) (entry_at old n)) (last_among (map name (take i bs)) (name b) n)))
 
 -- ---- the whole
@@ -63,7 +66,8 @@ found_if : {A : Type 0} (name : A → Name) (xs : List A) (n : Name) → among (
 found_if name [] n = refl
 found_if name (x ∷ xs) n = by (same_name (name x) n) (found_if name xs n)
   where
-    by : (b : Bool) → among (map name xs) n ≡ is_some (find (λ y. same_name (name y) n) xs) → (b || among (map name xs) n) ≡ is_some (cond b (Some x) (find (λ y. same_name (name y) n) xs))
+    by : (b : Bool) → among (map name xs) n ≡ is_some (find (λ y. same_name (name y) n) xs)
+        → (b || among (map name xs) n) ≡ is_some (cond b (Some x) (find (λ y. same_name (name y) n) xs))
     by true e = refl
     by false e = e
 
@@ -71,7 +75,8 @@ found_named : (es : List EntityType) (n : Name) (e : EntityType) → find (λ x.
 found_named [] n e f = absurd (cc f)
 found_named (x ∷ es) n e f = by (same_name (entity_name x) n) refl f (found_named es n e)
   where
-    by : (b : Bool) → same_name (entity_name x) n ≡ b → cond b (Some x) (find (λ y. same_name (entity_name y) n) es) ≡ Some e → (find (λ y. same_name (entity_name y) n) es ≡ Some e → entity_name e ≡ n) → entity_name e ≡ n
+    by : (b : Bool) → same_name (entity_name x) n ≡ b → cond b (Some x) (find (λ y. same_name (entity_name y) n) es) ≡ Some e
+        → (find (λ y. same_name (entity_name y) n) es ≡ Some e → entity_name e ≡ n) → entity_name e ≡ n
     by true g h ih = let same : x ≡ e = cc h in ap entity_name (sym same) ∙ name_is (entity_name x) n g
     by false g h ih = ih h
 
@@ -82,16 +87,19 @@ stands n (Some t) e f = refl
 stands n None (Some x) f = ap (λ m. Some (Some (Entities m))) (sym (f x refl))
 stands n None None f = refl
 
-pub declared_is : (d : Declared) (t0 t1 t2 : TypeTable) → ((n : Name) → entry_at t0 n ≡ None) → ArePut (map entity_name d.entities) (λ n. Some (Entities n)) t0 t1 → ArePut (map type_name d.types) (λ n. None) t1 t2
+pub declared_is : (d : Declared) (t0 t1 t2 : TypeTable) → ((n : Name) → entry_at t0 n ≡ None)
+    → ArePut (map entity_name d.entities) (λ n. Some (Entities n)) t0 t1 → ArePut (map type_name d.types) (λ n. None) t1 t2
     → (n : Name) → entry_at t2 n ≡ option_map (type_for (λ u. None)) (declared_as d n)
 declared_is d t0 t1 t2 none es ts n =
     ts n ∙ ap (λ b. cond b (Some None) (entry_at t1 n)) (found_if type_name d.types n)
     ∙ ap (cond (is_some (type_at d n)) (Some None))
-    (es n ∙ ap (λ b. cond b (Some (Some (Entities n))) (entry_at t0 n)) (found_if entity_name d.entities n) ∙ ap (cond (is_some (entity_at d n)) (Some (Some (Entities n)))) (none n))
+    (es n ∙ ap (λ b. cond b (Some (Some (Entities n))) (entry_at t0 n)) (found_if entity_name d.entities n)
+    ∙ ap (cond (is_some (entity_at d n)) (Some (Some (Entities n)))) (none n))
     ∙ stands n (type_at d n) (entity_at d n) (found_named d.entities n)
 
 pub table_is : (d : Declared) (l : Library) (t0 t1 t2 : TypeTable) → ((n : Name) → entry_at t0 n ≡ None) → ((n : Name) → built_in_at t0 n ≡ built_in_path l n)
-    → ArePut (map entity_name d.entities) (λ n. Some (Entities n)) t0 t1 → SameBuiltIn t0 t1 → ArePut (map type_name d.types) (λ n. None) t1 t2 → SameBuiltIn t1 t2 → IsTableOf (λ u. None) d l t2
+    → ArePut (map entity_name d.entities) (λ n. Some (Entities n)) t0 t1 → SameBuiltIn t0 t1 → ArePut (map type_name d.types) (λ n. None) t1 t2
+    → SameBuiltIn t1 t2 → IsTableOf (λ u. None) d l t2
 table_is d l t0 t1 t2 none built es e ts f = record { declared = declared_is d t0 t1 t2 none es ts; built_in = λ n. f n ∙ e n ∙ built n }
 
 -- names of what is viewed

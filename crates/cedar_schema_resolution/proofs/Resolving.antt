@@ -64,7 +64,8 @@ module _ (d : Declared) where
   -- ---- what the table says hangs on the common types that are found alone
 
   other : (c e : CommonType → Option CedarType) (o : Option EntityType)
-      → option_map (type_for c) (option_map (λ x. to_type (Entities (entity_name x))) o) ≡ option_map (type_for e) (option_map (λ x. to_type (Entities (entity_name x))) o)
+      → option_map (type_for c) (option_map (λ x. to_type (Entities (entity_name x))) o) ≡ option_map (type_for e)
+      (option_map (λ x. to_type (Entities (entity_name x))) o)
   other c e (Some x) = refl
   other c e None = refl
 
@@ -108,7 +109,8 @@ module _ (d : Declared) where
 
     -- what has a number is a common type
     its_type : (o : Option CommonType) (e : Option EntityType)
-        → option_map (number_for d) (or_else (option_map to_common o) (option_map (λ x. to_type (Entities (entity_name x))) e)) ≡ Some (Some i) → (t : CommonType) × (o ≡ Some t)
+        → option_map (number_for d) (or_else (option_map to_common o) (option_map (λ x. to_type (Entities (entity_name x))) e)) ≡ Some (Some i)
+        → (t : CommonType) × (o ≡ Some t)
     its_type (Some t) e f = (t, refl)
     its_type None (Some e) f = absurd (cc f)
     its_type None None f = absurd (cc f)
@@ -123,12 +125,14 @@ module _ (d : Declared) where
         let one : t.0 ≡ u = cc (sym (subst (λ k. slice_get d.types k ≡ Some t.0) same r.1.at) ∙ here) in
         subst (λ v. IsCommon (type_name u) v i) one (subst (λ k. IsCommon (type_name u) t.0 k) same r.1)
 
-    pub resolved : number_at c (type_name u) ≡ Some (Some i) → (l : Library) (common : CommonType → Option CedarType) (old new : TypeTable) (name : Name) (o : Option CedarType)
+    pub resolved : number_at c (type_name u) ≡ Some (Some i)
+        → (l : Library) (common : CommonType → Option CedarType) (old new : TypeTable) (name : Name) (o : Option CedarType)
         → name ≡ type_name u → IsTableOf common d l old → o ≡ written common d l u.namespace u.type
         → ((n : Name) → entry_at new n ≡ cond (is_at (name_cmp name) n) (Some o) (entry_at old n)) → ((n : Name) → built_in_at new n ≡ built_in_at old n)
         → IsTableOf (with_types d l common (i ∷ [])) d l new
     resolved first l common old new name o is table w put same = record {
-      declared = λ n. put n ∙ ap (λ b. cond b (Some o) (entry_at old n)) (at_is_same name n ∙ ap (λ m. same_name m n) is) ∙ by n (same_name (type_name u) n) refl;
+      declared = λ n. put n ∙ ap (λ b. cond b (Some o) (entry_at old n)) (at_is_same name n ∙ ap (λ m. same_name m n) is)
+          ∙ by n (same_name (type_name u) n) refl;
       built_in = λ n. same n ∙ table.built_in n;
     }
       where
@@ -136,10 +140,12 @@ module _ (d : Declared) where
         there : with_type d l common i u ≡ o
         there = ap (λ b. cond b (written common d l u.namespace u.type) (common u)) (its_number (number_of d (type_name u)) i (first_is first).number) ∙ sym w
 
-        by : (n : Name) (b : Bool) → same_name (type_name u) n ≡ b → cond b (Some o) (entry_at old n) ≡ option_map (type_for (with_type d l common i)) (declared_as d n)
+        by : (n : Name) (b : Bool) → same_name (type_name u) n ≡ b
+            → cond b (Some o) (entry_at old n) ≡ option_map (type_for (with_type d l common i)) (declared_as d n)
         by n true e =
             let found : type_at d n ≡ Some u = subst (λ m. type_at d m ≡ Some u) (name_is (type_name u) n e) (first_is first).found in
-            sym (ap (λ p. option_map (type_for (with_type d l common i)) (or_else (option_map to_common p) (option_map (λ x. to_type (Entities (entity_name x))) (entity_at d n)))) found
+            sym (ap (λ p. option_map (type_for (with_type d l common i))
+            (or_else (option_map to_common p) (option_map (λ x. to_type (Entities (entity_name x))) (entity_at d n)))) found
             ∙ ap Some there)
         by n false e =
             table.declared n ∙ alike common (with_type d l common i) n

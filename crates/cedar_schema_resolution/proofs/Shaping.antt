@@ -19,11 +19,14 @@ pub tags_written : (t : TypeTable) (namespace : Name) (s : TypeSyntax) (o : Opti
 tags_written t namespace s o f = λ d l is. f (unfolded (length d.types) d l) d l is
 
 module _ (t : TypeTable) (namespace : Name) (s : EntitySyntax) where
-  pub shape_written : (m : BTreeMap Text AttributeType) (tags : Option CedarType) → IsWritten t namespace (a_record s.attributes) (Some (Records (fields_of m))) → AreTags t namespace s.tags tags
+  pub shape_written : (m : BTreeMap Text AttributeType) (tags : Option CedarType)
+      → IsWritten t namespace (a_record s.attributes) (Some (Records (fields_of m))) → AreTags t namespace s.tags tags
       → IsShapeOf t namespace (shaped s) (Some record { attributes = fields_of m; tags = tags })
   shape_written m tags f g = λ d l is.
       ap (λ o. Some record { attributes = fields_of m; tags = o }) (g d l is)
-      ∙ ap (λ o. option_map (λ fs. record { attributes = fs; tags = s.tags >>= type_in d l namespace }) (grammar.fields_of o)) (f (unfolded (length d.types) d l) d l is)
+      ∙ ap (λ o. option_map (λ fs. record { attributes = fs; tags = s.tags >>= type_in d l namespace }) (grammar.fields_of o))
+      (f (unfolded (length d.types) d l) d l is)
 
   pub no_shape : IsWritten t namespace (a_record s.attributes) None → IsShapeOf t namespace (shaped s) None
-  no_shape f = λ d l is. ap (λ o. option_map (λ fs. record { attributes = fs; tags = s.tags >>= type_in d l namespace }) (grammar.fields_of o)) (f (unfolded (length d.types) d l) d l is)
+  no_shape f = λ d l is. ap (λ o. option_map (λ fs. record { attributes = fs; tags = s.tags >>= type_in d l namespace }) (grammar.fields_of o))
+      (f (unfolded (length d.types) d l) d l is)

@@ -1,6 +1,8 @@
 // Common types of schemas, resolved.
 
-use crate::{Declarations, ExtensionType, ResolutionError, declared_table, resolve_common_types};
+use crate::{
+    Declarations, EntityNames, ExtensionType, ResolutionError, declared_table, resolve_common_types,
+};
 use cedar_names::texts::SharedText;
 use cedar_schema::{SchemaType, TypeName};
 use cedar_schema_syntax::{
@@ -340,6 +342,81 @@ fn entity_types_have_their_shapes(rt: HostRuntime) -> Result<(), Fail> {
             None => None,
         };
         assert_eq!(rt; shape_of(rt.alloc(), attribute, tags)?, wanted, "{shows}");
+    }
+    Ok(())
+}
+
+/// `entity S in [PARENTS];`
+fn within(alloc: Global, parents: &[(&str, &str)]) -> Result<Declaration, AllocError> {
+    let mut names = Vec::new(alloc);
+    names.push(name_of(alloc, "S")?)?;
+    let mut paths = Vec::new(alloc);
+    for (namespace, name) in parents {
+        paths.push(path_of(alloc, namespace, name)?)?;
+    }
+    Ok(Declaration::Entities(EntitySyntax {
+        names,
+        parents: paths,
+        attributes: Vec::new(alloc),
+        tags: None,
+    }))
+}
+
+/// How many parents `S` has in a namespace, and how many words the first one's name has.
+fn parents_of(
+    alloc: Global,
+    namespace: &str,
+    parents: &[(&str, &str)],
+) -> Result<Option<(usize, usize)>, AllocError> {
+    let mut schema = schema_of(alloc, &[("", "A", "", "Long")])?;
+    let block = block_of(alloc, namespace, within(alloc, parents)?)?;
+    schema.namespaces.push(block)?;
+    let declared = Declarations::from_syntax(alloc, &schema)?;
+    let names = EntityNames::of(alloc, &declared.entities)?;
+    let Some(entity) = declared.entities.last() else {
+        return Ok(None);
+    };
+    let found = entity.parents(alloc, &names)?;
+    Ok(match found.first() {
+        Some(first) => Some((found.len(), first.words().len())),
+        None => None,
+    })
+}
+
+#[test]
+fn parents_are_entity_types(rt: HostRuntime) -> Result<(), Fail> {
+    let cases = [
+        ("in no namespace", "", [("", "E")].as_slice(), Some((1, 1))),
+        (
+            "by its path",
+            "",
+            [("M", "B"), ("", "E")].as_slice(),
+            Some((2, 2)),
+        ),
+        (
+            "of the namespace",
+            "M",
+            [("", "B")].as_slice(),
+            Some((1, 2)),
+        ),
+        ("outside it", "M", [("", "E")].as_slice(), Some((1, 1))),
+        ("of its own type", "M", [("", "S")].as_slice(), Some((1, 2))),
+        ("not in that namespace", "", [("", "B")].as_slice(), None),
+        (
+            "so far as declared",
+            "",
+            [("", "X"), ("", "E")].as_slice(),
+            Some((1, 1)),
+        ),
+        ("no common types", "", [("", "A")].as_slice(), None),
+        ("none that is built in", "", [("", "Long")].as_slice(), None),
+    ];
+    for (shows, namespace, parents, wanted) in cases {
+        assert_eq!(rt;
+            parents_of(rt.alloc(), namespace, parents)?,
+            wanted,
+            "{shows}"
+        );
     }
     Ok(())
 }

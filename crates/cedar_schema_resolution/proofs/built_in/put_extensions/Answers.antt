@@ -12,7 +12,8 @@ loop-number-preserved c =
     let high : c.loop-number.number ≤ length c.args.extensions.now = omega arith in
     let low : 0 < c.loop-number.number = omega arith in
     record {
-      built_in = built_lower c.args.extensions.now c.loop-number.number c.index-extensions-number.result c.args.table.now c.loop-number.table c.put_extension.new.table low high
+      built_in = built_lower c.args.extensions.now c.loop-number.number c.index-extensions-number.result c.args.table.now c.loop-number.table
+          c.put_extension.new.table low high
           c.index-extensions-number.is c.loop-number.invariant.built_in c.in_ok-put_extension.ensures.built_in;
       declared = λ n. c.in_ok-put_extension.ensures.declared n ∙ c.loop-number.invariant.declared n;
     }

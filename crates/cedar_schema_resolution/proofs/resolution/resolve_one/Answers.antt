@@ -20,7 +20,8 @@ returns c = λ l common are is.
     let d = declared_view c.args.declared.now in
     let u = type_view c.index-common.result.now in
     let o = option_map types.type_view c.in_ok-known.known in
-    resolved d c.args.numbers.now are c.args.number u (read_at c.args.declared.now.types.items c.args.number c.index-common.result.now c.requires c.index-common.ensures)
+    resolved d c.args.numbers.now are c.args.number u
+    (read_at c.args.declared.now.types.items c.args.number c.index-common.result.now c.requires c.index-common.ensures)
     (ap (number_at c.args.numbers.now) (sym c.in_ok-name.ensures) ∙ c.has.ensures.0 c.if-not-has.false)
     l common c.args.table.now c.declare.new.self c.in_ok-name.name o c.in_ok-name.ensures is
     (subst (λ ns. o ≡ written common d l ns u.type) c.words.ensures (c.in_ok-known.ensures common d l is))

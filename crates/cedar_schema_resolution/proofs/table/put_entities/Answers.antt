@@ -14,7 +14,8 @@ loop-entity-preserved c =
     let low : c.loop-entity.entity-index < length c.args.entities.now = omega arith in
     let here : c.entity-item.result ≡ get_or c.args.entities.now c.loop-entity.entity-index c.entity-item.result = cc in
     record {
-      put = put_more (λ x. entity_name (entity_view x)) (λ n. Some (Entities n)) c.args.entities.now c.loop-entity.entity-index c.entity-item.result c.args.table.now c.loop-entity.table c.put_entity.new.table
+      put = put_more (λ x. entity_name (entity_view x)) (λ n. Some (Entities n)) c.args.entities.now c.loop-entity.entity-index c.entity-item.result
+          c.args.table.now c.loop-entity.table c.put_entity.new.table
           low here c.loop-entity.invariant.put c.in_ok-put_entity.ensures.put;
       built_in = λ n. c.in_ok-put_entity.ensures.built_in n ∙ c.loop-entity.invariant.built_in n;
     }
@@ -22,4 +23,5 @@ loop-entity-preserved c =
 pub returns-clause-put : goal.returns-clause-put
 returns-clause-put c =
     let past : length c.args.entities.now ≤ c.loop-entity.entity-index = omega arith in
-    subst (λ xs. ArePut (map (λ x. entity_name (entity_view x)) xs) (λ n. Some (Entities n)) c.args.table.now c.loop-entity.table) (take_all c.loop-entity.entity-index c.args.entities.now past) c.loop-entity.invariant.put
+    subst (λ xs. ArePut (map (λ x. entity_name (entity_view x)) xs) (λ n. Some (Entities n)) c.args.table.now c.loop-entity.table)
+    (take_all c.loop-entity.entity-index c.args.entities.now past) c.loop-entity.invariant.put

@@ -12,5 +12,7 @@ use Rattle.cedar_schema_resolution.proofs.table.put_entity.Goals as goal
 pub returns-clause-put : goal.returns-clause-put
 returns-clause-put c =
     let same : c.in_ok-copy.copy ≡ c.in_ok-name.name = search rules in
-    put_one (entity_name (entity_view c.args.entity.now)) (λ n. Some (Entities n)) c.in_ok-copy.copy (Some (type_view (types.Entity c.in_ok-name.name))) c.args.table.now c.declare.new.self
-    (same ∙ c.in_ok-name.ensures) (ap Some (views.entity_view c.in_ok-name.name) ∙ ap (λ m. Some (Entities m)) c.in_ok-name.ensures) c.in_ok-declare.ensures.declared
+    put_one (entity_name (entity_view c.args.entity.now)) (λ n. Some (Entities n)) c.in_ok-copy.copy
+    (Some (type_view (types.Entity c.in_ok-name.name))) c.args.table.now c.declare.new.self
+    (same ∙ c.in_ok-name.ensures) (ap Some (views.entity_view c.in_ok-name.name) ∙ ap (λ m. Some (Entities m)) c.in_ok-name.ensures)
+    c.in_ok-declare.ensures.declared

@@ -7,4 +7,5 @@ use Rattle.cedar_schema_resolution.proofs.table.put_type.Goals as goal
 
 pub returns-clause-put : goal.returns-clause-put
 returns-clause-put c =
-    put_one (type_name (type_view c.args.common.now)) (λ n. None) c.in_ok-name.name None c.args.table.now c.declare.new.self c.in_ok-name.ensures refl c.in_ok-declare.ensures.declared
+    put_one (type_name (type_view c.args.common.now)) (λ n. None) c.in_ok-name.name None c.args.table.now c.declare.new.self c.in_ok-name.ensures refl
+    c.in_ok-declare.ensures.declared

@@ -13,7 +13,8 @@ loop-common-preserved c =
     let low : c.loop-common.common-index < length c.args.types.now = omega arith in
     let here : c.common-item.result ≡ get_or c.args.types.now c.loop-common.common-index c.common-item.result = cc in
     record {
-      put = put_more (λ x. type_name (type_view x)) (λ n. None) c.args.types.now c.loop-common.common-index c.common-item.result c.args.table.now c.loop-common.table c.put_type.new.table
+      put = put_more (λ x. type_name (type_view x)) (λ n. None) c.args.types.now c.loop-common.common-index c.common-item.result c.args.table.now
+          c.loop-common.table c.put_type.new.table
           low here c.loop-common.invariant.put c.in_ok-put_type.ensures.put;
       built_in = λ n. c.in_ok-put_type.ensures.built_in n ∙ c.loop-common.invariant.built_in n;
     }
@@ -21,4 +22,5 @@ loop-common-preserved c =
 pub returns-clause-put : goal.returns-clause-put
 returns-clause-put c =
     let past : length c.args.types.now ≤ c.loop-common.common-index = omega arith in
-    subst (λ xs. ArePut (map (λ x. type_name (type_view x)) xs) (λ n. None) c.args.table.now c.loop-common.table) (take_all c.loop-common.common-index c.args.types.now past) c.loop-common.invariant.put
+    subst (λ xs. ArePut (map (λ x. type_name (type_view x)) xs) (λ n. None) c.args.table.now c.loop-common.table)
+    (take_all c.loop-common.common-index c.args.types.now past) c.loop-common.invariant.put

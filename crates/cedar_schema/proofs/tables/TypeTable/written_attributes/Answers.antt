@@ -22,7 +22,9 @@ returns-in-Some c =
     (λ (o : Option (BTreeMap Text AttributeType)). option_map fields_of o ≡ in_order (typed_views c.in-Some.typed))
     (λ (o : Option (BTreeMap Text AttributeType)). IsWritten t namespace (a_record xs) (option_map (λ m. Records (fields_of m)) o))
     (λ o e. subst (IsWritten t namespace (a_record xs)) (sym (mapped_twice fields_of o))
-    (attributes_written t namespace xs (Some (typed_views c.in-Some.typed)) (option_map fields_of o) (subst (λ (q : Option (Vec (Text × AttributeType) Global)). AreTyped t namespace xs (option_map typed_views q)) c.in-Some.is c.in_ok-typed.ensures) e))
+    (attributes_written t namespace xs (Some (typed_views c.in-Some.typed)) (option_map fields_of o)
+    (subst (λ (q : Option (Vec (Text × AttributeType) Global)). AreTyped t namespace xs (option_map typed_views q)) c.in-Some.is
+    c.in_ok-typed.ensures) e))
     c.attributes_by_name.ensures
 
 pub returns-in-None : goal.returns-in-None
@@ -30,4 +32,6 @@ returns-in-None c =
     let t = c.args.self.now in
     let namespace = c.args.namespace.now in
     let xs = syntax.attributes_view c.args.attributes.now in
-    attributes_written t namespace xs None None (subst (λ (q : Option (Vec (Text × AttributeType) Global)). AreTyped t namespace xs (option_map typed_views q)) c.in-None.is c.in_ok-typed.ensures) refl
+    attributes_written t namespace xs None None
+    (subst (λ (q : Option (Vec (Text × AttributeType) Global)). AreTyped t namespace xs (option_map typed_views q)) c.in-None.is
+    c.in_ok-typed.ensures) refl

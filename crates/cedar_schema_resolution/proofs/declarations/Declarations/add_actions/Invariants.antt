@@ -7,5 +7,6 @@ abbrev pub invariant-loop-own : goal.invariant-loop-own
 invariant-loop-own l = record {
   entities : entities_view l.self ≡ entities_view l.fn.self;
   types : types_view l.self ≡ types_view l.fn.self;
-  actions : actions_view l.self ≡ actions_view l.fn.self ++ actions_named l.namespace (syntax.action_view l.written) (syntax.names_view (take l.own-index l.names));
+  actions : actions_view l.self ≡ actions_view l.fn.self ++ actions_named l.namespace (syntax.action_view l.written)
+      (syntax.names_view (take l.own-index l.names));
 }

@@ -7,7 +7,10 @@ use Rattle.cedar_schema_resolution.proofs.declarations.Declarations.add_all.Give
 
 abbrev pub invariant-loop-declaration : goal.invariant-loop-declaration
 invariant-loop-declaration l = record {
-  entities : entities_view l.self ≡ entities_view l.fn.self ++ of_block (entity_types_in l.namespace) (map syntax.declaration_view (take l.declaration-index l.declarations));
-  types : types_view l.self ≡ types_view l.fn.self ++ of_block (common_types_in l.namespace) (map syntax.declaration_view (take l.declaration-index l.declarations));
-  actions : actions_view l.self ≡ actions_view l.fn.self ++ of_block (actions_in l.namespace) (map syntax.declaration_view (take l.declaration-index l.declarations));
+  entities : entities_view l.self ≡ entities_view l.fn.self ++ of_block (entity_types_in l.namespace)
+      (map syntax.declaration_view (take l.declaration-index l.declarations));
+  types : types_view l.self ≡ types_view l.fn.self ++ of_block (common_types_in l.namespace)
+      (map syntax.declaration_view (take l.declaration-index l.declarations));
+  actions : actions_view l.self ≡ actions_view l.fn.self ++ of_block (actions_in l.namespace)
+      (map syntax.declaration_view (take l.declaration-index l.declarations));
 }

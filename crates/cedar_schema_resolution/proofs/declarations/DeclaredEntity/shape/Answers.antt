@@ -10,5 +10,8 @@ use Rattle.cedar_schema_resolution.proofs.declarations.DeclaredEntity.shape.Goal
 
 pub returns-in-Shaped : goal.returns-in-Shaped
 returns-in-Shaped c =
-    subst (λ (b : EntityBody). IfOk c.written_shape.result (λ o. IsShapeOf c.args.table.now c.args.self.now.namespace (body_view b) (option_map shape_view o))) (sym c.in-Shaped.is)
-    (subst (λ (n : Name). IfOk c.written_shape.result (λ o. IsShapeOf c.args.table.now n (shaped (syntax.entity_view c.in-Shaped.written.now)) (option_map shape_view o))) c.words.ensures c.written_shape.ensures)
+    subst (λ (b : EntityBody). IfOk c.written_shape.result
+    (λ o. IsShapeOf c.args.table.now c.args.self.now.namespace (body_view b) (option_map shape_view o))) (sym c.in-Shaped.is)
+    (subst (λ (n : Name). IfOk c.written_shape.result
+    (λ o. IsShapeOf c.args.table.now n (shaped (syntax.entity_view c.in-Shaped.written.now)) (option_map shape_view o))) c.words.ensures
+    c.written_shape.ensures)

@@ -10,7 +10,8 @@ use Rattle.cedar_schema_resolution.proofs.numbers.CommonNumbers.+mentions.Goals 
 pub add_mentioned-returns-in-Named : goal.add_mentioned-returns-in-Named
 add_mentioned-returns-in-Named t c =
     on_ok_weaker c.add_named.result
-    (λ e. mentioned_named c.args.self.now c.args.namespace.now c.args.written.now c.args.mentioned.now.items c.add_named.new.mentioned.items c.in-Named.path c.in-Named.is e)
+    (λ e. mentioned_named c.args.self.now c.args.namespace.now c.args.written.now c.args.mentioned.now.items c.add_named.new.mentioned.items
+    c.in-Named.path c.in-Named.is e)
     c.add_named.ensures
 
 pub add_mentioned-returns-in-Record : goal.add_mentioned-returns-in-Record
@@ -28,7 +29,8 @@ add_mentioned_in-loop-attribute-preserved t c =
     let here : c.attribute-item.result ≡ get_or c.args.attributes.now c.loop-attribute.attribute-index c.attribute-item.result = cc in
     record {
       far = one_mentioned c.args.self.now c.args.namespace.now c.args.attributes.now c.loop-attribute.attribute-index c.attribute-item.result
-          c.args.mentioned.now.items c.loop-attribute.mentioned.items c.add_mentioned.new.mentioned.items low here c.loop-attribute.invariant.far c.in_ok-add_mentioned.ensures;
+          c.args.mentioned.now.items c.loop-attribute.mentioned.items c.add_mentioned.new.mentioned.items low here c.loop-attribute.invariant.far
+          c.in_ok-add_mentioned.ensures;
     }
 
 pub add_mentioned_in-returns : goal.add_mentioned_in-returns

@@ -13,7 +13,10 @@ pub loop-number-preserved : goal.loop-number-preserved
 loop-number-preserved c =
     let high : c.loop-number.number ≤ length c.args.entities.now = omega arith in
     let low : 0 < c.loop-number.number = omega arith in
-    record { put = none_lower c.args.entities.now c.loop-number.number c.index-entities-number.result c.args.self.now c.loop-number.self c.add_entity.new.self low high c.index-entities-number.is c.loop-number.invariant.put c.in_ok-add_entity.ensures }
+    record {
+      put = none_lower c.args.entities.now c.loop-number.number c.index-entities-number.result c.args.self.now c.loop-number.self
+          c.add_entity.new.self low high c.index-entities-number.is c.loop-number.invariant.put c.in_ok-add_entity.ensures;
+    }
 
 pub returns : goal.returns
 returns c =

@@ -13,7 +13,10 @@ pub loop-number-preserved : goal.loop-number-preserved
 loop-number-preserved c =
     let high : c.loop-number.number ≤ length c.args.types.now = omega arith in
     let low : 0 < c.loop-number.number = omega arith in
-    record { put = number_lower c.args.types.now c.loop-number.number c.index-types-number.result c.args.self.now c.loop-number.self c.add_type.new.self low high c.index-types-number.is c.loop-number.invariant.put c.in_ok-add_type.ensures }
+    record {
+      put = number_lower c.args.types.now c.loop-number.number c.index-types-number.result c.args.self.now c.loop-number.self
+          c.add_type.new.self low high c.index-types-number.is c.loop-number.invariant.put c.in_ok-add_type.ensures;
+    }
 
 pub returns : goal.returns
 returns c =
