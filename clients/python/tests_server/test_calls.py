@@ -407,7 +407,7 @@ class Processes(unittest.TestCase):
     def setUp(self):
         self.service = Service()
         self.addCleanup(self.service.remove)
-        self.service.words += ["--processes", "2", "--silence", "10"]
+        self.service.words += ["--processes", "2", "--silence", "10", "--seconds", "120"]
         self.service.start()
 
     def decision(self, **context):
@@ -435,10 +435,18 @@ class Processes(unittest.TestCase):
         self.assertEqual(self.decision(), "deny")
 
     def test_many_hang_ups(self):
-        for _ in range(40):
+        """While clients keep one at least of those that are to end, each time."""
+        for _ in range(9):
+            for _ in range(10):
+                connection = socket.create_connection(("127.0.0.1", self.service.port), 20)
+                self.addCleanup(connection.close)
+                connection.sendall(Clients.request(b"{", 500))
+            before, until = set(self.service.workers()), time.monotonic() + 30
             self.service.signal(signal.SIGHUP)
-            time.sleep(0.05)
+            while len(set(self.service.workers()) - before) < 2 and time.monotonic() < until:
+                time.sleep(0.05)
         self.becomes("deny")
+        self.assertGreater(len(self.service.workers()), 8)
 
     def test_one_that_falls_silent(self):
         silent, *_ = self.service.workers()
