@@ -43,7 +43,7 @@ for it in python3 /usr/bin/python3; do
 done
 [ -n "$python" ] || { left_out 'starlette, uvicorn, httptools, gunicorn or psycopg 3' 'the service' && exit 0; }
 
-parts=('test_reading test_quick test_points test_whole' 'test_calls')
+parts=('test_reading test_quick test_points test_whole' 'test_calls' 'test_processes')
 if (cd clients/python && "$python" -B -c 'import tests.postgres as it; raise SystemExit(not it.tools())'); then
     parts+=('test_copies' 'test_outages.Outages' 'test_outages.Cuts' 'test_many' 'test_planted')
     if command -v haproxy > "$room/found"; then parts+=('test_three' 'test_page'); else left_out haproxy 'three copies behind it'; fi
