@@ -25,7 +25,7 @@ ends() {
 }
 trap ends EXIT
 trap 'exit 143' TERM INT HUP
-export TMPDIR="$room" CEDAR_PORTS="$room"
+export TMPDIR="$room" CEDAR_PORTS="$room" CEDAR_LIBRARY="$library"
 unset http_proxy https_proxy all_proxy HTTP_PROXY HTTPS_PROXY ALL_PROXY
 
 left_out() {
@@ -64,7 +64,7 @@ fi
 # Side by side, each part with a server of its own.
 for part in "${parts[@]}"; do
     # shellcheck disable=SC2086
-    (cd clients/python && CEDAR_LIBRARY="$library" exec python3 ../../tools/bounded.py "$seconds" "$python" -B -m unittest -q ${part//test_/tests_server.test_}) \
+    (cd clients/python && exec python3 ../../tools/bounded.py "$seconds" "$python" -B -m unittest -q ${part//test_/tests_server.test_}) \
         > "$room/${#running[@]}" 2>&1 &
     running+=($!)
 done
