@@ -25,7 +25,7 @@ ends() {
 }
 trap ends EXIT
 trap 'exit 143' TERM INT HUP
-export TMPDIR="$room" CEDAR_PORTS="$room"
+export TMPDIR="$room" CEDAR_PORTS="$room" CEDAR_LIBRARY="$library"
 unset http_proxy https_proxy all_proxy HTTP_PROXY HTTPS_PROXY ALL_PROXY
 
 left_out() {
@@ -43,7 +43,7 @@ for it in python3 /usr/bin/python3; do
 done
 [ -n "$python" ] || { left_out 'starlette, uvicorn, httptools, gunicorn or psycopg 3' 'the service' && exit 0; }
 
-parts=('test_reading test_quick test_points test_whole' 'test_calls')
+parts=('test_reading test_quick test_points test_whole' 'test_calls' 'test_processes')
 if (cd clients/python && "$python" -B -c 'import tests.postgres as it; raise SystemExit(not it.tools())'); then
     parts+=('test_copies' 'test_outages.Outages' 'test_outages.Cuts' 'test_many' 'test_planted')
     if command -v haproxy > "$room/found"; then parts+=('test_three' 'test_page'); else left_out haproxy 'three copies behind it'; fi
@@ -64,7 +64,7 @@ fi
 # Side by side, each part with a server of its own.
 for part in "${parts[@]}"; do
     # shellcheck disable=SC2086
-    (cd clients/python && CEDAR_LIBRARY="$library" exec python3 ../../tools/bounded.py "$seconds" "$python" -B -m unittest -q ${part//test_/tests_server.test_}) \
+    (cd clients/python && exec python3 ../../tools/bounded.py "$seconds" "$python" -B -m unittest -q ${part//test_/tests_server.test_}) \
         > "$room/${#running[@]}" 2>&1 &
     running+=($!)
 done

@@ -31,6 +31,11 @@ def evaluation(subject=ALICE, **context):
     return {"subject": subject, "action": {"name": "view"}, "resource": PHOTO, "context": context}
 
 
+def written(body, length=None):
+    """A question as it is sent; its head may say another length."""
+    return b"POST /v1/ask HTTP/1.1\r\nHost: x\r\nContent-Length: %d\r\n\r\n%s" % (len(body) if length is None else length, body)
+
+
 class Reply:
     """What was answered: the status, the headers and the body, JSON where it is that."""
 

@@ -6,11 +6,10 @@ import json
 import os
 import signal
 import socket
-import threading
 import time
 import unittest
 
-from tests_server.serving import ADMIN, ALICE, ANY, ASKER, BOB, PHOTO, VIEW, Caller, Service, evaluation, question
+from tests_server.serving import ADMIN, ALICE, ANY, ASKER, BOB, PHOTO, VIEW, Caller, Service, evaluation, question, written
 
 EVALUATION, EVALUATIONS = "/access/v1/evaluation", "/access/v1/evaluations"
 REASONS = {"reasons": ["policy0"], "erring": {}, "position": 0}
@@ -248,17 +247,13 @@ class Clients(OverFolder):
         self.addCleanup(connection.close)
         return connection
 
-    @staticmethod
-    def request(body, length=None):
-        return b"POST /v1/ask HTTP/1.1\r\nHost: x\r\nContent-Length: %d\r\n\r\n%s" % (len(body) if length is None else length, body)
-
     def is_answered(self, connection):
         (body,) = self.answers(connection, 1)
         self.assertIn(b'"decision":"allow"', body)
 
     def test_a_request_in_two_pieces(self):
         """Wherever it is cut."""
-        whole = self.request(json.dumps(question(hour=9)).encode())
+        whole = written(json.dumps(question(hour=9)).encode())
         connection = self.raw()
         for at in range(1, len(whole)):
             connection.setsockopt(socket.IPPROTO_TCP, socket.TCP_NODELAY, 1)
@@ -280,7 +275,7 @@ class Clients(OverFolder):
 
     def test_requests_in_one_piece(self):
         """Each is answered in its turn, however they are cut."""
-        asks = [self.request(json.dumps(question(hour=hour)).encode()) for hour in (9, 18)]
+        asks = [written(json.dumps(question(hour=hour)).encode()) for hour in (9, 18)]
         health = b"GET /healthz HTTP/1.1\r\nHost: x\r\n\r\n"
         other = asks[0].replace(b"/v1/ask", b"/v1/ask?age=0")
         told = {asks[0]: b'"allow"', asks[1]: b'"deny"', health: b'"serves"', other: b'"allow"'}
@@ -298,7 +293,7 @@ class Clients(OverFolder):
     def test_the_last_request(self):
         for head in (b"Connection: close\r\n", b"connection: Close\r\n"):
             connection = self.raw()
-            connection.sendall(self.request(json.dumps(question(hour=9)).encode()).replace(b"Host:", head + b"Host:"))
+            connection.sendall(written(json.dumps(question(hour=9)).encode()).replace(b"Host:", head + b"Host:"))
             data = b""
             while True:
                 more = connection.recv(65536)
@@ -308,14 +303,14 @@ class Clients(OverFolder):
             self.assertIn(b'"decision":"allow"', data)
             self.assertIn(b"connection: close\r\n", data)
         connection = self.raw()
-        connection.sendall(self.request(json.dumps(question(hour=9)).encode()).replace(b"HTTP/1.1", b"HTTP/1.0"))
+        connection.sendall(written(json.dumps(question(hour=9)).encode()).replace(b"HTTP/1.1", b"HTTP/1.0"))
         self.assertIn(b'"allow"', self.answers(connection, 1)[0])
         self.assertEqual(connection.recv(65536), b"")
 
     def test_lines_between_requests(self):
         """They keep no connection open."""
         connection, since = self.raw(60), time.monotonic()
-        connection.sendall(self.request(json.dumps(question(hour=9)).encode()))
+        connection.sendall(written(json.dumps(question(hour=9)).encode()))
         self.is_answered(connection)
         connection.sendall(b"\r\n")
         self.assertEqual(connection.recv(65536), b"")
@@ -324,7 +319,7 @@ class Clients(OverFolder):
     def test_expectations(self):
         connection = self.raw()
         body = json.dumps(question(hour=9)).encode()
-        head, _, _ = self.request(body).partition(b"\r\n\r\n")
+        head, _, _ = written(body).partition(b"\r\n\r\n")
         connection.sendall(head + b"\r\nExpect: 100-continue\r\n\r\n")
         self.assertTrue(connection.recv(65536).startswith(b"HTTP/1.1 100 "))
         connection.sendall(body)
@@ -335,7 +330,7 @@ class Clients(OverFolder):
         connection = self.raw(3)
         with self.assertRaises(OSError):
             while True:
-                connection.sendall(self.request(json.dumps(question(hour=9)).encode()) * 50)
+                connection.sendall(written(json.dumps(question(hour=9)).encode()) * 50)
         for _ in range(20):
             self.assertEqual(self.caller().ask(hour=9).status, 200)
         found, connection = 0, connection
@@ -350,7 +345,7 @@ class Clients(OverFolder):
 
     def test_a_body_that_does_not_come(self):
         connection = self.raw()
-        connection.sendall(self.request(b'{"principal": ', 500))
+        connection.sendall(written(b'{"principal": ', 500))
         data = connection.recv(65536)
         self.assertIn(b"HTTP/1.1 408 ", data)
         self.assertIn(b'"TooSlow"', data)
@@ -365,7 +360,7 @@ class Clients(OverFolder):
     def test_a_head_byte_by_byte(self):
         connection, since = self.raw(), time.monotonic()
         with self.assertRaises(OSError):
-            for byte in self.request(b"{}") * 10:
+            for byte in written(b"{}") * 10:
                 connection.sendall(bytes([byte]))
                 time.sleep(0.1)
                 if time.monotonic() - since > 25:
@@ -375,14 +370,14 @@ class Clients(OverFolder):
     def test_others_do_not_wait_for_slow_ones(self):
         slow = [self.raw() for _ in range(50)]
         for it in slow:
-            it.sendall(self.request(b"{", 500))
+            it.sendall(written(b"{", 500))
         for _ in range(20):
             self.assertEqual(self.caller().ask(hour=9).status, 200)
 
     def test_a_client_that_goes(self):
         for at in range(50):
             connection = self.raw()
-            connection.sendall(self.request(json.dumps(question(hour=9)).encode())[: 40 + at * 4])
+            connection.sendall(written(json.dumps(question(hour=9)).encode())[: 40 + at * 4])
             connection.close()
         self.assertEqual(self.caller().ask(hour=9).said["decision"], "allow")
 
@@ -399,135 +394,6 @@ class Many(OverFolder):
         finally:
             for it in callers:
                 it.close()
-
-
-class Processes(unittest.TestCase):
-    """What the supervisor does."""
-
-    def setUp(self):
-        self.service = Service()
-        self.addCleanup(self.service.remove)
-        self.service.words += ["--processes", "2", "--silence", "10"]
-        self.service.start()
-
-    def decision(self, **context):
-        caller = self.service.caller()
-        try:
-            return caller.ask(BOB, **context).said["decision"]
-        finally:
-            caller.close()
-
-    def becomes(self, wanted, **context):
-        """All processes answer so, in time."""
-        until, found = time.monotonic() + 30, []
-        while time.monotonic() < until and found[-20:] != [wanted] * 20:
-            found.append(self.decision(**context))
-        self.assertEqual(found[-20:], [wanted] * 20)
-
-    def test_one_that_is_killed_begins_anew(self):
-        before = set(self.service.workers())
-        for pid in before:
-            os.kill(pid, signal.SIGKILL)
-        until = time.monotonic() + 30
-        while time.monotonic() < until and (len(self.service.workers()) < 2 or before & set(self.service.workers())):
-            time.sleep(0.05)
-        self.service.wait()
-        self.assertEqual(self.decision(), "deny")
-
-    def test_many_hang_ups(self):
-        for _ in range(40):
-            self.service.signal(signal.SIGHUP)
-            time.sleep(0.05)
-        self.becomes("deny")
-
-    def test_one_that_falls_silent(self):
-        silent, *_ = self.service.workers()
-        os.kill(silent, signal.SIGSTOP)
-        until = time.monotonic() + 60
-        while silent in self.service.workers() and time.monotonic() < until:
-            time.sleep(0.1)
-        self.assertNotIn(silent, self.service.workers())
-        self.assertIn(f"WORKER TIMEOUT (pid:{silent})", self.service.log())
-        self.assertEqual(self.service.log().count("WORKER TIMEOUT"), 1)
-        self.becomes("deny")
-
-    def test_those_that_end_while_they_begin(self):
-        """Each is missed, and another begins in its place."""
-        until = time.monotonic() + 3
-        while time.monotonic() < until:
-            for pid in self.service.workers():
-                with contextlib.suppress(ProcessLookupError):
-                    os.kill(pid, signal.SIGKILL)
-        until = time.monotonic() + 30
-        while len(self.service.workers()) < 2 and time.monotonic() < until:
-            time.sleep(0.05)
-        self.assertEqual(len(self.service.workers()), 2)
-        self.becomes("deny")
-
-    def test_the_end_of_one_that_begins(self):
-        """It is told to end as soon as it is there."""
-        before = set(self.service.workers())
-        for pid in before:
-            os.kill(pid, signal.SIGKILL)
-        while not set(self.service.workers()) - before:
-            pass
-        self.service.signal(signal.SIGTERM)
-        self.assertEqual(self.service.process.wait(20), 0)
-
-    def test_all_end_where_the_supervisor_is_killed(self):
-        until = time.monotonic() + 30
-        while len(self.service.workers()) < 2 and time.monotonic() < until:
-            time.sleep(0.05)
-        before = self.service.workers()
-        self.service.process.kill()
-        self.service.process.wait()
-        while any(os.path.exists(f"/proc/{pid}") for pid in before) and time.monotonic() < until:
-            time.sleep(0.05)
-        self.assertEqual((len(before), [pid for pid in before if os.path.exists(f"/proc/{pid}")]), (2, []))
-
-    def test_a_folder_that_is_read_again(self):
-        self.service.write("more.cedar", 'permit(principal == User::"bob", action, resource);')
-        for pid in self.service.workers():
-            os.kill(pid, signal.SIGKILL)
-        self.becomes("deny")
-        self.service.signal(signal.SIGHUP)
-        self.becomes("allow")
-        # (what can't be read isn't taken, and the service says so)
-        self.service.write("more.cedar", "permit(")
-        self.service.signal(signal.SIGHUP)
-        until = time.monotonic() + 30
-        while "more.cedar: Refused Text" not in self.service.log() and time.monotonic() < until:
-            time.sleep(0.05)
-        self.assertIn("more.cedar: Refused Text", self.service.log())
-        self.becomes("allow")
-
-    def test_none_is_dropped_where_the_folder_is_read_again(self):
-        ended, failed = threading.Event(), []
-
-        def asks():
-            while not ended.is_set():
-                try:
-                    self.decision(hour=9)
-                except OSError as why:
-                    failed.append(why)
-
-        threads = [threading.Thread(target=asks) for _ in range(4)]
-        for it in threads:
-            it.start()
-        self.service.signal(signal.SIGHUP)
-        time.sleep(4)
-        ended.set()
-        for it in threads:
-            it.join()
-        self.assertEqual(failed, [])
-
-    def test_folders_that_are_not_served(self):
-        for name, text, said in (("a.cedar", "permit(", "a.cedar: Refused Text"), ("a.json", '[{"uid": 1}]', "a.json: /0/uid an object is wanted")):
-            with Service() as service:
-                service.stop()
-                service.write(name, text)
-                with self.assertRaisesRegex(AssertionError, said):
-                    service.start()
 
 
 if __name__ == "__main__":

@@ -1,9 +1,12 @@
 """Tests of what answers in a process, without one."""
 
+import os
+import signal
 import time
 import unittest
 from unittest import mock
 
+from gunicorn.arbiter import Arbiter
 from gunicorn.config import Config
 
 from cedar_session import Entity, Refused
@@ -11,7 +14,7 @@ from cedar_session import Entity, Refused
 from cedar_server.points import FolderPoint
 from cedar_server.questions import Question
 from cedar_server.remembered import Remembered
-from cedar_server.supervisor import Beat
+from cedar_server.supervisor import Beat, Supervisor, begin_alone
 
 
 class Folders(unittest.TestCase):
@@ -51,6 +54,33 @@ class Remembers(unittest.TestCase):
             remembered.of("ask", body, 0, lambda it: asked.append(it) or ("deny", "", ""))
         self.assertEqual(len(asked), 10_003)
         self.assertLess(len(remembered._given), 5_000)
+
+
+class Supervisors(unittest.TestCase):
+    def test_signals_wait_while_a_process_begins(self):
+        done = []
+        before = signal.signal(signal.SIGUSR1, lambda *_: done.append("heard"))
+        self.addCleanup(signal.signal, signal.SIGUSR1, before)
+
+        def begins(_):
+            signal.raise_signal(signal.SIGUSR1)
+            done.append("begun")
+
+        with mock.patch.object(Arbiter, "spawn_worker", begins):
+            Supervisor.__new__(Supervisor).spawn_worker()
+        self.assertEqual(done, ["begun", "heard"])
+
+    def test_a_signal_that_waits_is_that_of_the_process(self):
+        for which in (signal.SIGTERM, signal.SIGQUIT, signal.SIGINT):
+            pid = os.fork()
+            if pid == 0:
+                # (from here on nothing of the tests goes on)
+                signal.signal(which, lambda *_: None)
+                signal.pthread_sigmask(signal.SIG_BLOCK, [which])
+                signal.raise_signal(which)
+                begin_alone()
+                os._exit(0)
+            self.assertEqual(os.WTERMSIG(os.waitpid(pid, 0)[1]), which)
 
 
 class Beats(unittest.TestCase):

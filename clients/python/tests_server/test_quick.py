@@ -22,6 +22,12 @@ KEYS = ("a", "b c", "__entity", "__extn", "__unknown", "__expr", "type", "id", "
 NUMBERS = (0, -1, 2**63 - 1, -(2**63), 2**63, 0.5)
 
 
+# What makes a question none.
+ODD = (("more", 1), ("more", {}), ("context", []), ("context", None), ("resource", {"type": "R", "id": 1}), ("resource", {"type": "R", "id": None}))
+ODD += (("resource", {"type": "R"}), ("resource", {"type": 1, "id": "r"}), ("resource", {"type": "R", "id": "r", "x": 1}), ("resource", ["type", "id"]))
+ODD += (("action", {"name": 1}), ("action", {"name": "v", "x": 1}), ("action", "v"), ("context", {"a": {"__extn": 1}}), ("context", {"a": 0.5}))
+
+
 class Any:
     """Random questions, some of which are none."""
 
@@ -110,6 +116,8 @@ class Questions(unittest.TestCase):
         bodies = [json.dumps(given).encode() for given, _, _ in (*QUESTIONS, *EVALUATIONS)] + [given for given, _, _ in FAULTS]
         parts = [json.dumps(it).encode() for it in (U, A, R)]
         bodies += [b'{"principal": %s, "action": %s, "resource": %s, "context": {"x": %s}}' % (*parts, it) for it, _, _ in FAULTS]
+        whole = {"principal": U, "action": A, "resource": R, "context": {}}, {"subject": S, "action": N, "resource": R, "context": {}}
+        bodies += [json.dumps({**it, key: value}).encode() for it in whole for key, value in ODD]
         for body in bodies:
             for short, long in WAYS:
                 if read(body, long) is None:
@@ -145,8 +153,9 @@ class Answers(unittest.TestCase):
         with cedar.Session() as session:
             scope = "permit(principal == ?principal, action, resource)"
             (fine, errs) = session.load(f"{scope}; {scope} when {{ context.x }};")
-            for at in range(500):
-                ids = [f"{any_text.text()}{it} {at}".replace("\ud800", "") for it in range(2)]
+            texts = [*LETTERS, *(any_text.text().replace("\ud800", "") for _ in range(300))]
+            for at, text in enumerate(texts):
+                ids = [f"{text}{it} {at}" for it in range(2)]
                 for template, link in zip((fine, errs), ids):
                     session.link(template, link, user)
                 line = session.asked(asked)
