@@ -88,19 +88,23 @@ placed o n x f key entries none some puts =
 
 -- ---- an entry is read
 
-module _ (k : ℕ) (key found bs mid next rest : Text) (read : ReadsKey bs found mid) (same : same_text found key ≡ true) (colon : Takes (mark token.Colon) mid next) where
+module _ (k : ℕ) (key found bs mid next rest : Text) (read : ReadsKey bs found mid) (same : same_text found key ≡ true)
+    (colon : Takes (mark token.Colon) mid next) where
   reads_key : ReadsKey bs key mid
   reads_key = subst (λ x. ReadsKey bs x mid) (same_key found key same) read
 
-  pub entity_entry : (u : Uid) (old new : List (Keyed Tree)) → ReadsLeaf next (Lit (Entity u)) rest → PutsNew (key, Lit (Entity u)) old new → AddsEntry (suc k) bs old new rest
+  pub entity_entry : (u : Uid) (old new : List (Keyed Tree)) → ReadsLeaf next (Lit (Entity u)) rest → PutsNew (key, Lit (Entity u)) old new
+      → AddsEntry (suc k) bs old new rest
   entity_entry u old new reads puts = record {
     added = (key, Lit (Entity u));
-    reads = λ names. entry_read (Within names (suc k)) bs mid next rest key (Lit (Entity u)) reads_key colon (within names (suc k) k next rest (Lit (Entity u)) refl (reads k names)).reads;
+    reads = λ names. entry_read (Within names (suc k)) bs mid next rest key (Lit (Entity u)) reads_key colon
+        (within names (suc k) k next rest (Lit (Entity u)) refl (reads k names)).reads;
     is_entry = record { is_data = leaf k (Entity u); simple = refl };
     puts = puts;
   }
 
-  pub record_entry : (es : Attributes) (old new : List (Keyed Tree)) → ReadsRecord k next es rest → PutsNew (key, tree_of (record_value es)) old new → AddsEntry (suc k) bs old new rest
+  pub record_entry : (es : Attributes) (old new : List (Keyed Tree)) → ReadsRecord k next es rest → PutsNew (key, tree_of (record_value es)) old new
+      → AddsEntry (suc k) bs old new rest
   record_entry es old new reads puts =
       let t = tree_of (record_value es) in
       record {
@@ -113,7 +117,12 @@ module _ (k : ℕ) (key found bs mid next rest : Text) (read : ReadsKey bs found
 
 -- ---- the body
 
-pub question_read : (q : GivenQuestion) (n k : ℕ) (bs one rest : Text) (parts : Parts) → n ≡ suc (suc k) → part_entries parts ≡ entries_with (Some (Lit (Entity q.action.value))) (Some (tree_of (record_value q.context.value.entries))) (Some (Lit (Entity q.principal.value))) (Some (Lit (Entity q.resource.value)))
+abbrev question_entries : GivenQuestion → List (Keyed Tree)
+question_entries q =
+    entries_with (Some (Lit (Entity q.action.value))) (Some (tree_of (record_value q.context.value.entries)))
+    (Some (Lit (Entity q.principal.value))) (Some (Lit (Entity q.resource.value)))
+
+pub question_read : (q : GivenQuestion) (n k : ℕ) (bs one rest : Text) (parts : Parts) → n ≡ suc (suc k) → part_entries parts ≡ question_entries q
     → Takes (mark token.LeftBrace) bs one → ReadsParts (suc k) one parts rest → ReadsQuestion n bs q rest
 question_read q n k bs one rest parts is all takes read =
     let body = record_of_entries (suc k) bs one rest (part_entries parts) (question_tree q) (ap record_tree all) takes read in

@@ -152,7 +152,8 @@ record_data n es all =
     record { low = omega arith; restricted = are.restricted }
 
 -- entries, each of a key of its own, between braces
-pub record_of_entries : (n : ℕ) (bs mid rest : Text) (es : List (Keyed Tree)) (t : Tree) → record_tree es ≡ t → Takes (mark token.LeftBrace) bs mid → ReadsByKey n mid es rest → ReadsSimple n bs t rest
+pub record_of_entries : (n : ℕ) (bs mid rest : Text) (es : List (Keyed Tree)) (t : Tree) → record_tree es ≡ t → Takes (mark token.LeftBrace) bs mid
+    → ReadsByKey n mid es rest → ReadsSimple n bs t rest
 record_of_entries n bs mid rest es t written takes all =
     let is = record_is_made all.listed (record_tree es) (record_from all.listed es all.made) in
     record {
@@ -164,7 +165,8 @@ record_of_entries n bs mid rest es t written takes all =
       simple = ap is_simple (sym written) ∙ all_simple n es all.are_entries;
     }
 
-pub record_of_attributes : (n : ℕ) (bs mid rest : Text) (es : Attributes) → Takes (mark token.LeftBrace) bs mid → ReadsAttributes n mid es rest → ReadsRecord n bs es rest
+pub record_of_attributes : (n : ℕ) (bs mid rest : Text) (es : Attributes) → Takes (mark token.LeftBrace) bs mid → ReadsAttributes n mid es rest
+    → ReadsRecord n bs es rest
 record_of_attributes n bs mid rest es = record_of_entries n bs mid rest (written_entries es) (tree_of (record_value es)) (written_record es)
 
 -- ---- values

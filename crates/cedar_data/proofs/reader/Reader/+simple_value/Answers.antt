@@ -7,7 +7,8 @@ use Rattle.cedar_literals.specs.Literals.{literal_of}
 use Rattle.cedar_data.specs.Questions.{AddsAttribute, ReadsAttributes}
 use Rattle.cedar_data.specs.Simple.{written_entries}
 use Rattle.cedar_data.specs.Takes.{Takes}
-use Rattle.cedar_data.proofs.ReadAttributes.{nothing_read, entries_closed, entry_more, entry_last, record_of_attributes, attributes_read, scalar_read, attribute_read}
+use Rattle.cedar_data.proofs.ReadAttributes.{nothing_read, entries_closed, entry_more, entry_last}
+use Rattle.cedar_data.proofs.ReadAttributes.{record_of_attributes, attributes_read, scalar_read, attribute_read}
 use Rattle.cedar_data.proofs.reader.Reader.+simple_value.Goals as goal
 
 pub simple_value-returns-in_ok-attributes : goal.simple_value-returns-in_ok-attributes
@@ -26,14 +27,16 @@ simple_record-returns t c =
     (subst (λ m. ReadsAttributes c.args.levels c.expect.new.self m.entries c.attributes.new.self) (sym c.in_ok-new.ensures.ok) c.in_ok-attributes.ensures)
 
 pub attributes-entries-init : goal.attributes-entries-init
-attributes-entries-init t c = nothing_read c.args.levels c.args.self.now (written_entries c.new-attributes.result.entries) (ap written_entries c.new-attributes.ensures.empty)
+attributes-entries-init t c =
+    nothing_read c.args.levels c.args.self.now (written_entries c.new-attributes.result.entries) (ap written_entries c.new-attributes.ensures.empty)
 
 pub attributes-entries-preserved : goal.attributes-entries-preserved
 attributes-entries-preserved t c =
     let adds = subst (λ x. AddsAttribute c.args.levels x c.entries.attributes.entries c.attribute.new.attributes.entries c.attribute.new.self) c.entries-test.ensures c.in_ok-attribute.ensures in
     let takes : Takes (mark token.Comma) c.attribute.new.self c.expect.new.self = subst (λ x. Takes (mark token.Comma) x c.expect.new.self) c.if-eat.ensures c.in_ok-expect.ensures in
     let old = written_entries c.entries.attributes.entries in
-    entry_more c.args.levels c.args.self.now old c.entries.self c.expect.new.self c.entries.invariant (written_entries c.attribute.new.attributes.entries) c.attribute.new.self adds takes
+    let new = written_entries c.attribute.new.attributes.entries in
+    entry_more c.args.levels c.args.self.now old c.entries.self c.expect.new.self c.entries.invariant new c.attribute.new.self adds takes
 
 pub attributes-entries-smaller : goal.attributes-entries-smaller
 attributes-entries-smaller t c =
@@ -47,10 +50,13 @@ pub attributes-returns-then-eat : goal.attributes-returns-then-eat
 attributes-returns-then-eat t c =
     let adds = subst (λ x. AddsAttribute c.args.levels x c.entries.attributes.entries c.attribute.new.attributes.entries c.attribute.new.self) c.entries-test.ensures c.in_ok-attribute.ensures in
     let old = written_entries c.entries.attributes.entries in
-    entry_last c.args.levels c.args.self.now old c.entries.self c.eat-in-entries.new.self c.entries.invariant (written_entries c.attribute.new.attributes.entries) c.attribute.new.self adds c.if-eat.ensures
+    let new = written_entries c.attribute.new.attributes.entries in
+    entry_last c.args.levels c.args.self.now old c.entries.self c.eat-in-entries.new.self c.entries.invariant new c.attribute.new.self adds c.if-eat.ensures
 
 pub attributes-returns : goal.attributes-returns
-attributes-returns t c = entries_closed c.args.levels c.args.self.now (written_entries c.entries.attributes.entries) c.entries.self c.eat.new.self c.entries.invariant c.entries-test.ensures
+attributes-returns t c =
+    let read = written_entries c.entries.attributes.entries in
+    entries_closed c.args.levels c.args.self.now read c.entries.self c.eat.new.self c.entries.invariant c.entries-test.ensures
 
 pub attribute-returns : goal.attribute-returns
 attribute-returns t c =

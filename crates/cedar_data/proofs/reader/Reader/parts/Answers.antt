@@ -13,8 +13,9 @@ parts-init c = nothing_read (suc c.args.levels) c.args.self.now (part_entries c.
 pub parts-preserved : goal.parts-preserved
 parts-preserved c =
     let adds = subst (λ x. AddsPart (suc c.args.levels) x c.parts.parts c.part.new.parts c.part.new.self) c.parts-test.ensures c.in_ok-part.ensures in
-    let takes : Takes (mark token.Comma) c.part.new.self c.expect.new.self = subst (λ x. Takes (mark token.Comma) x c.expect.new.self) c.if-eat.ensures c.in_ok-expect.ensures in
-    entry_more (suc c.args.levels) c.args.self.now (part_entries c.parts.parts) c.parts.self c.expect.new.self c.parts.invariant (part_entries c.part.new.parts) c.part.new.self adds takes
+    let takes = subst (λ x. Takes (mark token.Comma) x c.expect.new.self) c.if-eat.ensures c.in_ok-expect.ensures in
+    let new = part_entries c.part.new.parts in
+    entry_more (suc c.args.levels) c.args.self.now (part_entries c.parts.parts) c.parts.self c.expect.new.self c.parts.invariant new c.part.new.self adds takes
 
 pub parts-smaller : goal.parts-smaller
 parts-smaller c =
@@ -27,7 +28,9 @@ parts-smaller c =
 pub returns-then-eat : goal.returns-then-eat
 returns-then-eat c =
     let adds = subst (λ x. AddsPart (suc c.args.levels) x c.parts.parts c.part.new.parts c.part.new.self) c.parts-test.ensures c.in_ok-part.ensures in
-    entry_last (suc c.args.levels) c.args.self.now (part_entries c.parts.parts) c.parts.self c.eat-in-parts.new.self c.parts.invariant (part_entries c.part.new.parts) c.part.new.self adds c.if-eat.ensures
+    let old = part_entries c.parts.parts in
+    let new = part_entries c.part.new.parts in
+    entry_last (suc c.args.levels) c.args.self.now old c.parts.self c.eat-in-parts.new.self c.parts.invariant new c.part.new.self adds c.if-eat.ensures
 
 pub returns : goal.returns
 returns c = entries_closed (suc c.args.levels) c.args.self.now (part_entries c.parts.parts) c.parts.self c.eat.new.self c.parts.invariant c.parts-test.ensures

@@ -10,6 +10,7 @@ pub returns : goal.returns
 returns c =
     let is : c.args.levels ≡ suc (suc (c.args.levels - 2)) = omega arith in
     question_read _ c.args.levels (c.args.levels - 2) c.args.self.now c.expect.new.self c.parts.new.self c.in_ok-parts.parts is
-    (λ i. entries_with (option_map (λ u. Lit (Entity u.value)) (c.in-Some-action.is i)) (option_map (λ m. tree_of (record_value m.value.entries)) (c.in-Some-context.is i))
-    (option_map (λ u. Lit (Entity u.value)) (c.in-Some.is i)) (option_map (λ u. Lit (Entity u.value)) (c.in-Some-resource.is i)))
+    (λ i. entries_with (option_map (λ u. Lit (Entity u.value)) (c.in-Some-action.is i))
+    (option_map (λ m. tree_of (record_value m.value.entries)) (c.in-Some-context.is i)) (option_map (λ u. Lit (Entity u.value)) (c.in-Some.is i))
+    (option_map (λ u. Lit (Entity u.value)) (c.in-Some-resource.is i)))
     c.in_ok-expect.ensures c.in_ok-parts.ensures
