@@ -1,5 +1,5 @@
 -- Texts that grow at their end by what is written.
-use Rattle.std.proofs.Common.{◌≡◌, ℕ, ◌+◌, ◌<◌, ◌≤◌, zero, suc, Bool, true, false, cond, List, [], ◌∷◌, ◌++◌, drop, length, Result, Ok, Err, refl, sym, ap, ◌∙◌, append_assoc, append-nil, arith, lit<}
+use Rattle.std.proofs.Common.{◌≡◌, ℕ, ◌<◌, ◌≤◌, zero, suc, cond, List, [], ◌∷◌, ◌++◌, drop, length, Result, Ok, Err, refl, sym, ap, ◌∙◌, append_assoc, append-nil, arith}
 use Rattle.std.specs.Prelude.{OnOk, is_ok, encode_utf8_all, encode_utf8, IsUtf8}
 use Rattle.std.specs.Str.{chars}
 use Rattle.std.proofs.lemmas.Str.{encodes-append, encodes-chars, encode_ascii}
@@ -86,14 +86,19 @@ entry_step out d e f key one later whole g h i k =
 
 -- ---- objects of four parts
 
+-- a key, its value and a comma
+pub part_put : (a b d e key value : List ℕ) → b ≡ a ++ encode_utf8_all (key_written key) → d ≡ b ++ encode_utf8_all value → e ≡ d ++ encode_utf8 44
+    → e ≡ a ++ encode_utf8_all (part_written key value)
+part_put a b d e key value f g h =
+    grown a d e (key_written key ++ value) (44 ∷ []) (grown a b d (key_written key) value f g) (pushed d e 44 h)
+    ∙ ap (λ cs. a ++ encode_utf8_all cs) (append_assoc (key_written key) value (44 ∷ []))
+
 module _ {A E : Type 0} where
-  -- a key, its value and a comma
   pub on_part : (r : Result A E) (a b d e key value : List ℕ) → b ≡ a ++ encode_utf8_all (key_written key) → d ≡ b ++ encode_utf8_all value
       → e ≡ cond (is_ok r) (d ++ encode_utf8 44) d
       → OnOk r (e ≡ a ++ encode_utf8_all (part_written key value))
-  on_part r a b d e key value f g h =
-      on_same r a e ((key_written key ++ value) ++ 44 ∷ []) (part_written key value) (append_assoc (key_written key) value (44 ∷ []))
-      (on_grown r a d e (key_written key ++ value) (44 ∷ []) (grown a b d (key_written key) value f g) (on_pushed r d e 44 h))
+  on_part (Ok x) a b d e key value f g h = part_put a b d e key value f g h
+  on_part (Err x) a b d e key value f g h = tt
 
 part_is : (key value rest : List ℕ) → part_written key value ++ rest ≡ entry_written key value rest
 part_is key value rest =
@@ -123,20 +128,28 @@ four_parts k1 v1 k2 v2 k3 v3 k4 v4 =
     ∙ append_assoc (123 ∷ p1) p2 e3 ∙ ap (λ s. 123 ∷ (p1 ++ s)) (part_is k2 v2 e3)
     ∙ ap (λ s. 123 ∷ s) (part_is k1 v1 (entry_written k2 v2 e3))
 
+abbrev pub four_between : List ℕ → List ℕ → List ℕ → List ℕ → List ℕ → List ℕ → List ℕ → List ℕ → List ℕ
+four_between k1 v1 k2 v2 k3 v3 k4 v4 = 123 ∷ entry_written k1 v1 (entry_written k2 v2 (entry_written k3 v3 (entry_written k4 v4 (125 ∷ []))))
+
+pub parts_put : (a0 a1 a2 a3 a4 a5 a6 k1 v1 k2 v2 k3 v3 k4 v4 : List ℕ)
+    → Parts a0 a1 a2 a3 a4 a5 (part_written k1 v1) (part_written k2 v2) (part_written k3 v3) (part_written k4 v4)
+    → a6 ≡ a5 ++ encode_utf8 125 → a6 ≡ a0 ++ encode_utf8_all (four_between k1 v1 k2 v2 k3 v3 k4 v4)
+parts_put a0 a1 a2 a3 a4 a5 a6 k1 v1 k2 v2 k3 v3 k4 v4 parts last =
+    let p1 = part_written k1 v1 in
+    let p2 = part_written k2 v2 in
+    let p3 = part_written k3 v3 in
+    let p4 = part_written k4 v4 in
+    let s2 = grown a0 a1 a2 (123 ∷ []) p1 (pushed a0 a1 123 parts.opened) parts.first in
+    let s3 = grown a0 a2 a3 (123 ∷ p1) p2 s2 parts.second in
+    let s4 = grown a0 a3 a4 ((123 ∷ p1) ++ p2) p3 s3 parts.third in
+    let s5 = grown a0 a4 a5 (((123 ∷ p1) ++ p2) ++ p3) p4 s4 parts.fourth in
+    grown a0 a5 a6 ((((123 ∷ p1) ++ p2) ++ p3) ++ p4) (125 ∷ []) s5 (pushed a5 a6 125 last)
+    ∙ ap (λ cs. a0 ++ encode_utf8_all cs) (four_parts k1 v1 k2 v2 k3 v3 k4 v4)
+
 module _ {A E : Type 0} where
   pub on_parts : (r : Result A E) (a0 a1 a2 a3 a4 a5 a6 k1 v1 k2 v2 k3 v3 k4 v4 : List ℕ)
       → Parts a0 a1 a2 a3 a4 a5 (part_written k1 v1) (part_written k2 v2) (part_written k3 v3) (part_written k4 v4)
       → a6 ≡ cond (is_ok r) (a5 ++ encode_utf8 125) a5
-      → OnOk r (a6 ≡ a0 ++ encode_utf8_all (123 ∷ entry_written k1 v1 (entry_written k2 v2 (entry_written k3 v3 (entry_written k4 v4 (125 ∷ []))))))
-  on_parts r a0 a1 a2 a3 a4 a5 a6 k1 v1 k2 v2 k3 v3 k4 v4 parts last =
-      let p1 = part_written k1 v1 in
-      let p2 = part_written k2 v2 in
-      let p3 = part_written k3 v3 in
-      let p4 = part_written k4 v4 in
-      let s2 = grown a0 a1 a2 (123 ∷ []) p1 (pushed a0 a1 123 parts.opened) parts.first in
-      let s3 = grown a0 a2 a3 (123 ∷ p1) p2 s2 parts.second in
-      let s4 = grown a0 a3 a4 ((123 ∷ p1) ++ p2) p3 s3 parts.third in
-      let s5 = grown a0 a4 a5 (((123 ∷ p1) ++ p2) ++ p3) p4 s4 parts.fourth in
-      on_same r a0 a6 (((((123 ∷ p1) ++ p2) ++ p3) ++ p4) ++ 125 ∷ [])
-      (123 ∷ entry_written k1 v1 (entry_written k2 v2 (entry_written k3 v3 (entry_written k4 v4 (125 ∷ []))))) (four_parts k1 v1 k2 v2 k3 v3 k4 v4)
-      (on_grown r a0 a5 a6 ((((123 ∷ p1) ++ p2) ++ p3) ++ p4) (125 ∷ []) s5 (on_pushed r a5 a6 125 last))
+      → OnOk r (a6 ≡ a0 ++ encode_utf8_all (four_between k1 v1 k2 v2 k3 v3 k4 v4))
+  on_parts (Ok x) a0 a1 a2 a3 a4 a5 a6 k1 v1 k2 v2 k3 v3 k4 v4 parts last = parts_put a0 a1 a2 a3 a4 a5 a6 k1 v1 k2 v2 k3 v3 k4 v4 parts last
+  on_parts (Err x) a0 a1 a2 a3 a4 a5 a6 k1 v1 k2 v2 k3 v3 k4 v4 parts last = tt

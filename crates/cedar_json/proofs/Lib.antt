@@ -14,3 +14,6 @@ pub mod Spellings
 pub mod Sound
 pub mod Unique
 pub mod Saying
+pub mod Paths
+pub mod Splitting
+pub mod AnswerTexts

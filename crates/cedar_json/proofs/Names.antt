@@ -145,7 +145,7 @@ path_read ((c ∷ cs) ∷ v ∷ vs) rest us h some stop are =
 
 -- ---- its characters
 
-path_small : (p : Name) → list_all is_free_word p ≡ true → list_all is_small (path p) ≡ true
+pub path_small : (p : Name) → list_all is_free_word p ≡ true → list_all is_small (path p) ≡ true
 path_small [] h = refl
 path_small ([] ∷ ws) h = absurd (cc h)
 path_small ((c ∷ cs) ∷ []) h =

@@ -1,12 +1,10 @@
 -- What is read is said, and where nothing is read nothing is said.
-use Rattle.std.proofs.Common.{◌≡◌, ℕ, Bool, true, false, Option, Some, None, is_some, List, [], ◌++◌, refl, sym, ap, ◌∙◌, subst}
-use Rattle.std.specs.Prelude.{string_bytes, encode_utf8_all, IsUtf8, IsSomeAnd}
+use Rattle.std.proofs.Common.{◌≡◌, ℕ, true, false, Option, Some, None, is_some, List, [], ◌++◌, refl, sym, ap, ◌∙◌, subst}
+use Rattle.std.specs.Prelude.{encode_utf8_all, IsUtf8, IsSomeAnd}
 use Rattle.json.specs.Json.{Json, document}
 use Rattle.json.specs.Strict.{HasUniqueKeys}
 use Rattle.cedar_language.specs.Uid.{Text}
-use Rattle.cedar_language.specs.Tree.{Tree}
-use Rattle.cedar_world.specs.Bodies.{and_then, EntityBody}
-use Rattle.cedar_world.specs.Asking.{Question}
+use Rattle.cedar_world.specs.Bodies.{and_then}
 use Rattle.cedar_json.specs.declared.reading.Unread.{Unread}
 use Rattle.cedar_json.specs.declared.reading.Unread.TheVariants as unread
 use Rattle.cedar_json.specs.Entities.{entities_in, entities_of}
@@ -22,11 +20,11 @@ use Rattle.cedar_json.proofs.QuestionTexts.{question_text}
 use Rattle.cedar_json.proofs.ReadBack.{text_of}
 use Rattle.cedar_json.proofs.Unique.{entities_unique, question_unique, nothing_said}
 
-some_is : {A : Type 0} → (o : Option A) → is_some o ≡ true → (a : A) × (o ≡ Some a)
+pub some_is : {A : Type 0} → (o : Option A) → is_some o ≡ true → (a : A) × (o ≡ Some a)
 some_is (Some a) e = (a, refl)
 some_is None e = absurd (cc e)
 
-none_is : {A : Type 0} → (o : Option A) → is_some o ≡ false → o ≡ None
+pub none_is : {A : Type 0} → (o : Option A) → is_some o ≡ false → o ≡ None
 none_is (Some a) e = absurd (cc e)
 none_is None e = refl
 

@@ -9,3 +9,6 @@ pub mod Rows
 pub mod Appended
 pub mod Parts
 pub mod Said
+pub mod Told
+pub mod Bodies
+pub mod Answers

@@ -1,5 +1,5 @@
 -- What the calls answer: the Cedar text of what a text of JSON says, or why it says nothing.
-use Rattle.std.specs.Prelude.{◌≡◌, Option, Some, None, List, ⊤}
+use Rattle.std.specs.Prelude.{◌≡◌, true, Option, Some, None, is_some, Result, Ok, Err, List, ⊤}
 use Rattle.json.specs.Json.{Json, document}
 use Rattle.json.specs.Strict.{HasUniqueKeys}
 use Rattle.cedar_language.specs.Uid.{Text}
@@ -24,6 +24,11 @@ SaysQuestion json text = (question : Question) × (question_of json ≡ Some que
 abbrev pub IsUnsaid : {B : Type 0} → Option B → Unread → Type 0
 IsUnsaid said unread.Memory = ⊤
 IsUnsaid said unread.Unsaid = said ≡ None
+
+-- on success something is said, and else nothing
+abbrev pub Tells : {A B : Type 0} → Result A Unread → Option B → Type 0
+Tells (Ok a) said = is_some said ≡ true
+Tells (Err e) said = IsUnsaid said e
 
 -- the text is no JSON, or an object of it has a key twice
 abbrev pub IsUnparsed : Text → Unread → Type 0

@@ -3,10 +3,10 @@ ghost use Rattle.std.specs.Prelude.{◌≡◌, is_some, codes};
 ghost use Rattle.json.specs.Json.{object};
 ghost use Rattle.json.specs.Strict.{HasUniqueKeys, ItemsHaveUniqueKeys};
 ghost use Rattle.json.specs.Value.{value_view, items_view, members_view};
-ghost use Rattle.cedar_grammar.specs.Names.{is_among};
 ghost use Rattle.cedar_world.specs.Bodies.{and_then};
-ghost use Rattle.cedar_json.specs.Entities.{entity_in, each_entity, parents_in, fields_in, under, only_under, if_there, entity_keys, body_of, body_in, bodies_of, entities_in};
+ghost use Rattle.cedar_json.specs.Entities.{entity_in, each_entity, parents_in, fields_in, under, if_there, body_of, body_in, bodies_of, entities_in};
 
+use crate::object_keys::has_only;
 use crate::values::{is_record, is_uid};
 use crate::writing::{Members, find};
 use json::Value;
@@ -95,23 +95,6 @@ fn is_body(members: &Members<'_>) -> bool
     has_fields(members, "tags")
 }
 
-fn is_entity_key(key: &str) -> bool
-    ensures { result ≡ is_among key.now entity_keys }
-{
-    key == "uid" || key == "parents" || key == "attrs" || key == "tags"
-}
-
-fn has_entity_keys(members: &Members<'_>) -> bool
-    ensures { result ≡ only_under entity_keys (members_view members.now.items) }
-{
-    for member in members {
-        if !is_entity_key(member.0) {
-            return false;
-        }
-    }
-    true
-}
-
 /// Whether a value is an entity with its parts.
 fn is_entity_body(value: &Value<'_>) -> bool
     ensures { HasUniqueKeys (value_view value.now)
@@ -120,7 +103,7 @@ fn is_entity_body(value: &Value<'_>) -> bool
     let Value::Object(members) = value else {
         return false;
     };
-    if !has_entity_keys(members) {
+    if !has_only(members, &["uid", "parents", "attrs", "tags"]) {
         return false;
     }
     is_body(members)

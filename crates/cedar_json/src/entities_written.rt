@@ -112,7 +112,8 @@ fn write_body(out: &mut String, members: &Members<'_>) -> Result<(), AllocError>
     out.push('}')
 }
 
-fn write_one(out: &mut String, value: &Value<'_>) -> Result<(), AllocError>
+/// Appends an entity with all of its parts.
+pub fn write_one(out: &mut String, value: &Value<'_>) -> Result<(), AllocError>
     ensures { Appends result out.old out.new (one_written (value_view value.now)) }
 {
     match value {

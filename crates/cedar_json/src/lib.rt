@@ -1,19 +1,30 @@
 //! What JSON says as values, entities and questions of Cedar, and the Cedar text of each.
 #![tactic(auto)]
 
+mod answers;
+mod bodies;
 mod entities;
 mod entities_written;
+mod fault_walks;
+mod faults;
+mod object_keys;
+mod places;
+mod questions;
 mod reading;
 mod scalars;
 #[cfg(test)]
 mod tests;
+mod told;
 mod values;
 mod writing;
 
 ghost use Rattle.cedar_json.specs.Laws.{WrittenValuesAreRead, WrittenEntitiesAreRead, WrittenQuestionsAreRead, ValuesHaveUniqueKeys};
 ghost use Rattle.cedar_json.specs.Rows.{Rows};
 
-pub use reading::{Unread, read_entities, read_value};
+pub use answers::answer_text;
+pub use bodies::SplitError;
+pub use faults::{FaultKind, JsonFault, entities_fault, question_fault, value_fault};
+pub use reading::{Unread, entity_texts, read_entities, read_question, read_value};
 
 /// What is written for a value is a text of that value.
 pub fn written_values_are_read()

@@ -1,16 +1,20 @@
 // Texts of JSON, read and written as Cedar texts.
-ghost use Rattle.std.specs.Prelude.{◌≡◌, Some, IfOk, IfErr, string_bytes};
+ghost use Rattle.std.specs.Prelude.{◌≡◌, ◌≤◌, All, Some, IfOk, IfErr, length, map, string_bytes};
 ghost use Rattle.std.specs.Str.{IsUtf8};
 ghost use Rattle.json.specs.Json.{document};
 ghost use Rattle.json.specs.Strict.{HasUniqueKeys};
 ghost use Rattle.json.specs.Value.{value_view, items_view, members_view};
+ghost use Rattle.cedar_json.specs.Bodies.{SaysBodies, IsUnsplit};
 ghost use Rattle.cedar_json.specs.Entities.{entities_of};
-ghost use Rattle.cedar_json.specs.Said.{SaysEntities, IsUnsaid, IsUnparsed};
+ghost use Rattle.cedar_json.specs.Questions.{question_of};
+ghost use Rattle.cedar_json.specs.Said.{SaysEntities, SaysQuestion, IsUnsaid, IsUnparsed};
 ghost use Rattle.cedar_json.specs.Values.{value_of, Says};
 ghost use Rattle.cedar_json.specs.Written.{AreTexts, ItemsAreTexts, MembersAreTexts};
 
+use crate::bodies::{SplitError, split};
 use crate::entities::is_entities;
 use crate::entities_written::write_entities;
+use crate::questions::write_asks;
 use crate::values::is_value;
 use crate::writing::{Members, write_value};
 use json::{Error, Scratch, Value};
@@ -127,4 +131,42 @@ pub fn read_entities(alloc: Global, json: &str) -> Result<String, Unread>
     let mut text = String::new(alloc);
     write_entities(&mut text, &value)?;
     Ok(text)
+}
+
+/// The Cedar text of the question that a text of JSON asks: its principal, action and resource, each as
+/// `{"type", "id"}`, under `__entity` or as Cedar writes it in a string, and perhaps a context.
+pub fn read_question(alloc: Global, json: &str) -> Result<String, Unread>
+    ensures said { IfOk result (λ text. SaysQuestion json.now (string_bytes text)) }
+    ensures unsaid { IfErr result (IsUnsaid (question_of json.now)) }
+{
+    let mut scratch = Scratch::new(alloc);
+    let value = match parse(alloc, json, &mut scratch) {
+        Ok(value) => value,
+        Err(unread) => return Err(unread),
+    };
+    holds_texts(&value);
+    let mut text = String::new(alloc);
+    write_asks(alloc, &mut text, &value)?;
+    Ok(text)
+}
+
+/// The entities that a text of JSON says as Cedar texts of at most `limit` bytes, in order, none split.
+///
+/// `TooLong` comes where an entity doesn't fit into a body of its own: the index is that of the first.
+pub fn entity_texts(alloc: Global, json: &str, limit: usize) -> Result<Vec<String>, SplitError>
+    ensures said { IfOk result (λ texts. SaysBodies json.now (map string_bytes texts.items)) }
+    ensures within { IfOk result (λ texts. All (λ text. length text ≤ limit) (map string_bytes texts.items)) }
+    ensures unsplit { IfErr result (IsUnsplit json.now limit) }
+{
+    let mut scratch = Scratch::new(alloc);
+    let value = match parse(alloc, json, &mut scratch) {
+        Ok(value) => value,
+        Err(Unread::Memory) => return Err(SplitError::Memory),
+        Err(Unread::Unsaid) => return Err(SplitError::Unsaid),
+    };
+    if !is_entities(&value) {
+        return Err(SplitError::Unsaid);
+    }
+    holds_texts(&value);
+    split(alloc, &value, limit)
 }

@@ -48,7 +48,7 @@ fn is_named(value: &Value<'_>) -> bool
 }
 
 /// Whether a key belongs to an escape.
-fn is_escape(key: &str) -> bool
+pub fn is_escape(key: &str) -> bool
     ensures { result ≡ is_among key.now escapes }
 {
     key == "__entity" || key == "__extn" || key == "__expr"
