@@ -1,8 +1,8 @@
 -- Answers as values of JSON.
-use Rattle.std.proofs.Common.{◌≡◌, ℕ, ◌+◌, ◌≤◌, zero, suc, Bool, true, ◌&&◌, Option, Some, None, is_some, List, [], ◌∷◌, ◌++◌, drop, map, refl, sym, ap, ◌∙◌, arith, rules, codes}
+use Rattle.std.proofs.Common.{◌≡◌, ℕ, ◌≤◌, Bool, true, ◌&&◌, Option, Some, None, is_some, List, [], ◌∷◌, ◌++◌, refl, ap, ◌∙◌, arith, rules}
 use Rattle.std.specs.Borrow.{Bor}
 use Rattle.std.specs.FinMap as finite
-use Rattle.json.specs.Json.{Json, null, string, array, object, Items, no_items, item, max_depth}
+use Rattle.json.specs.Json.{string, Items, item, max_depth}
 use Rattle.json.specs.Tree.{depth, items_depth, HasNumbers, ItemsHaveNumbers}
 use Rattle.json.specs.Value.{value_view, items_view}
 use Rattle.json.specs.declared.value.Value.{Value, String, the_lemmas}
@@ -15,7 +15,7 @@ use Rattle.cedar_replies.specs.declared.error_kind.ErrorKind.{ErrorKind}
 use Rattle.cedar_replies.specs.declared.error_kind.ErrorKind.TheVariants as kinds
 use Rattle.cedar_replies.specs.Erring.{have_kinds, with_kinds, and_kind}
 use Rattle.cedar_replies.specs.Kinds.{kind_of, error_name}
-use Rattle.cedar_json.specs.Answers.{decision_json, strings, error_told, errors, diagnostics_json, answer_json, errors_told}
+use Rattle.cedar_json.specs.Answers.{decision_json, strings, error_told, errors, answer_json, errors_told}
 use Rattle.cedar_json.specs.Bodies.{before}
 
 -- ---- lists that grow at their end

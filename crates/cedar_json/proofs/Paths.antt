@@ -1,9 +1,9 @@
 -- Entities in a string, word by word.
-use Rattle.std.proofs.Common.{◌≡◌, ◌≢◌, ℕ, Bool, true, false, cond, List, [], ◌∷◌, ◌++◌, Option, Some, None, is_some, Result, Ok, Err, refl, sym, ap, ◌∙◌, append_assoc, arith, lit<}
-use Rattle.std.specs.Prelude.{OnOk, encode_utf8_all, option_map}
+use Rattle.std.proofs.Common.{◌≡◌, ◌≢◌, ℕ, Bool, true, false, cond, List, [], ◌∷◌, ◌++◌, Option, Some, None, is_some, Result, Ok, Err, refl, sym, ap, ◌∙◌, append_assoc, lit<}
+use Rattle.std.specs.Prelude.{OnOk, encode_utf8_all}
 use Rattle.std.specs.Str.{chars}
 use Rattle.std.proofs.lemmas.Str.{encodes-append}
-use Rattle.cedar_language.specs.Uid.{Text, Name, Uid}
+use Rattle.cedar_language.specs.Uid.{Text, Name}
 use Rattle.cedar_grammar.specs.Escape.{string_of}
 use Rattle.cedar_grammar.specs.Steps.{is_mark}
 use Rattle.cedar_grammar.specs.Token as token
@@ -17,11 +17,11 @@ use Rattle.cedar_world.specs.Bodies.{and_then}
 use Rattle.cedar_json.specs.declared.reading.Unread.{Unread}
 use Rattle.cedar_json.specs.declared.reading.Unread.TheVariants as unread
 use Rattle.cedar_json.specs.Questions.{longer, or_else, string_alone, path_in, uid_told, uid_read}
-use Rattle.cedar_json.specs.QuestionsWritten.{told_written, read_written}
+use Rattle.cedar_json.specs.QuestionsWritten.{told_written}
 use Rattle.cedar_json.specs.Said.{Tells}
 use Rattle.cedar_json.specs.Told.{GoesOn}
 use Rattle.cedar_json.specs.Written.{path}
-use Rattle.cedar_json.proofs.Appending.{grown, two_pushed, on_grown}
+use Rattle.cedar_json.proofs.Appending.{grown, two_pushed}
 use Rattle.cedar_json.proofs.Names.{path_small}
 use Rattle.cedar_json.proofs.Saying.{none_is}
 use Rattle.cedar_json.proofs.Sound.{some_map}

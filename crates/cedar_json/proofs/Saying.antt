@@ -1,12 +1,10 @@
 -- What is read is said, and where nothing is read nothing is said.
-use Rattle.std.proofs.Common.{◌≡◌, ℕ, Bool, true, false, Option, Some, None, is_some, List, [], ◌++◌, refl, sym, ap, ◌∙◌, subst}
-use Rattle.std.specs.Prelude.{string_bytes, encode_utf8_all, IsUtf8, IsSomeAnd}
+use Rattle.std.proofs.Common.{◌≡◌, ℕ, true, false, Option, Some, None, is_some, List, [], ◌++◌, refl, sym, ap, ◌∙◌, subst}
+use Rattle.std.specs.Prelude.{encode_utf8_all, IsUtf8, IsSomeAnd}
 use Rattle.json.specs.Json.{Json, document}
 use Rattle.json.specs.Strict.{HasUniqueKeys}
 use Rattle.cedar_language.specs.Uid.{Text}
-use Rattle.cedar_language.specs.Tree.{Tree}
-use Rattle.cedar_world.specs.Bodies.{and_then, EntityBody}
-use Rattle.cedar_world.specs.Asking.{Question}
+use Rattle.cedar_world.specs.Bodies.{and_then}
 use Rattle.cedar_json.specs.declared.reading.Unread.{Unread}
 use Rattle.cedar_json.specs.declared.reading.Unread.TheVariants as unread
 use Rattle.cedar_json.specs.Entities.{entities_in, entities_of}

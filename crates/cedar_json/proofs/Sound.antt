@@ -1,10 +1,10 @@
 -- Which JSON says a value, part by part.
-use Rattle.std.proofs.Common.{◌≡◌, ℕ, Bool, true, false, not, cond, ◌&&◌, ◌||◌, Option, Some, None, is_some, List, [], ◌∷◌, length, map, refl, sym, ap, ◌∙◌, subst, arith}
+use Rattle.std.proofs.Common.{◌≡◌, Bool, true, false, not, cond, ◌&&◌, ◌||◌, Option, Some, None, is_some, List, [], ◌∷◌, length, refl, sym, ap, ◌∙◌, subst}
 use Rattle.std.specs.Prelude.{◌==◌, codes, option_map, pos, neg_ℤ}
 use Rattle.std.specs.Str.Parse.{digits_value}
 use Rattle.std.specs.List.{list_any}
 use Rattle.json.specs.Find.{as_object}
-use Rattle.json.specs.Json.{Json, null, boolean, number, string, array, object, Items, no_items, item, Members, no_members, member}
+use Rattle.json.specs.Json.{Json, null, boolean, number, string, array, object, Items, Members, no_members, member}
 use Rattle.json.specs.Strict as strict
 use Rattle.json.specs.Strict.{HasUniqueKeys, MembersHaveUniqueKeys, AreDistinct}
 use Rattle.json.specs.Value.{value_view, members_view}
@@ -13,7 +13,7 @@ use Rattle.cedar_language.specs.Uid.{Text, Name, Uid}
 use Rattle.cedar_language.specs.Tree.{Tree, Lit, Entity, Apply, MakeSet}
 use Rattle.cedar_grammar.specs.Build.{long, trees, Keyed, keys, record_of}
 use Rattle.cedar_grammar.specs.Names.{is_text, is_among, are_distinct}
-use Rattle.cedar_world.specs.Bodies.{and_then, read_with, name_spelled, Fields, named_fields, entries_of, entity_with}
+use Rattle.cedar_world.specs.Bodies.{and_then, read_with, name_spelled, Fields, named_fields, entity_with}
 use Rattle.cedar_json.specs.Entities.{entity_in, parents_in, fields_in, under, if_there, body_of}
 use Rattle.cedar_json.specs.Values.{minus, is_at_most, long_in, uid_with, two_strings, uid_in, name_in, escapes, arguments, call_with, call_in, items_in, record_with, entry_with, entries, datum, data_of}
 use Rattle.cedar_json.proofs.Keys.{distinct_keys, entry_keys}

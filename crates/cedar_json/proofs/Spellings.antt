@@ -1,18 +1,18 @@
 -- Names, word by word.
-use Rattle.std.proofs.Common.{◌≡◌, ◌≢◌, ℕ, zero, suc, ◌<◌, Bool, true, false, not, cond, ◌&&◌, ◌||◌, ◌↔◌, Option, Some, None, is_some, List, [], ◌∷◌, ◌++◌, length, get_or, drop, refl, sym, ap, ◌∙◌, subst, append-nil, true≢false, arith}
+use Rattle.std.proofs.Common.{◌≡◌, ◌≢◌, ℕ, suc, ◌<◌, Bool, true, false, cond, ◌&&◌, ◌↔◌, Some, None, is_some, List, [], ◌∷◌, ◌++◌, length, get_or, drop, refl, sym, ap, ◌∙◌, subst, true≢false, arith}
 use Rattle.std.specs.Prelude.{◌==◌, IsTrue}
 use Rattle.std.specs.Cmp.{first_so, second_so}
 use Rattle.std.specs.List.{list_all}
 use Rattle.std.specs.Str.{bytes_eq}
 use Rattle.std.proofs.lemmas.Slice.Eq.{bytes_eq-Decides}
-use Rattle.std.proofs.lemmas.Bool.{eqb-true, and_parts}
-use Rattle.cedar_language.specs.Uid.{Text, Name}
+use Rattle.std.proofs.lemmas.Bool.{eqb-true}
+use Rattle.cedar_language.specs.Uid.{Text}
 use Rattle.cedar_language.specs.Words.{begins_word, is_in_word}
 use Rattle.cedar_grammar.specs.Token as token
 use Rattle.cedar_grammar.specs.Token.{Word, spelled, word_of, word_among, named_words, id_of}
 use Rattle.cedar_grammar.specs.Tokens.{colon}
-use Rattle.cedar_names.specs.Identifiers.{is_identifier, is_reserved, is_id, IsUnreservedId}
-use Rattle.cedar_world.specs.Bodies.{onto_first, words_between, behind_colon, is_free_word, name_spelled}
+use Rattle.cedar_names.specs.Identifiers.{is_identifier, IsUnreservedId}
+use Rattle.cedar_world.specs.Bodies.{onto_first, words_between, is_free_word, name_spelled}
 use Rattle.cedar_json.proofs.Tokens.{first_in_word}
 
 -- ---- words that aren't reserved

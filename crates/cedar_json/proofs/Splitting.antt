@@ -1,19 +1,19 @@
 -- Entities in several bodies.
-use Rattle.std.proofs.Common.{◌≡◌, ℕ, ◌+◌, ◌-◌, ◌<◌, ◌≤◌, zero, suc, Bool, true, false, Option, Some, None, is_some, List, [], ◌∷◌, ◌++◌, drop, length, map, refl, sym, ap, ◌∙◌, subst, append_assoc, arith, lit<}
+use Rattle.std.proofs.Common.{◌≡◌, ℕ, ◌+◌, ◌-◌, ◌<◌, ◌≤◌, zero, suc, true, Option, Some, None, is_some, List, [], ◌∷◌, ◌++◌, drop, length, refl, sym, ap, ◌∙◌, subst, append_assoc, arith, lit<}
 use Rattle.std.specs.Prelude.{All, IsUtf8, encode_utf8, encode_utf8_all}
 use Rattle.std.proofs.lemmas.List.{length-append}
 use Rattle.std.proofs.lemmas.List.Elements.{All-nil, All-cons}
 use Rattle.std.proofs.lemmas.Str.{encodes-append, encode_ascii}
 use Rattle.json.specs.Find.{get_item}
 use Rattle.json.specs.Json.{Json, null, boolean, number, string, array, object, Items, no_items, item, document}
-use Rattle.json.specs.Value.{value_view, items_view}
+use Rattle.json.specs.Value.{items_view}
 use Rattle.json.specs.declared.value.Value.{Value}
 use Rattle.cedar_language.specs.Uid.{Text}
 use Rattle.cedar_world.specs.Bodies.{and_then, read_with, EntityBody}
 use Rattle.cedar_json.specs.declared.bodies.SplitError.{SplitError}
 use Rattle.cedar_json.specs.declared.bodies.SplitError.TheVariants as split
 use Rattle.cedar_json.specs.Bodies.{AreBodiesOf, joined, SaysBodies, items_of, before, all_of, IsWithin, AreWithin, IsNext, IsSplit, IsLong, IsTooLongBehind, IsTooLong, IsUnsplit}
-use Rattle.cedar_json.specs.Entities.{body_in, bodies_of, entities_in, entities_of}
+use Rattle.cedar_json.specs.Entities.{body_in, bodies_of, entities_in}
 use Rattle.cedar_json.specs.EntitiesWritten.{one_written, bodies_written}
 use Rattle.cedar_json.specs.Written.{AreTexts, ItemsAreTexts}
 use Rattle.cedar_json.proofs.Appending.{grown, pushed}

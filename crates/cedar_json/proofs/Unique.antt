@@ -1,5 +1,5 @@
 -- Entities and questions have no key twice.
-use Rattle.std.proofs.Common.{◌≡◌, ℕ, Bool, true, false, not, cond, ◌&&◌, ◌||◌, Option, Some, None, is_some, List, [], ◌∷◌, refl, sym, ap, ◌∙◌, subst, true≢false}
+use Rattle.std.proofs.Common.{◌≡◌, Bool, true, false, not, cond, ◌&&◌, ◌||◌, Option, Some, None, List, [], ◌∷◌, refl, sym, ap, ◌∙◌, subst, true≢false}
 use Rattle.std.specs.Prelude.{codes, option_map}
 use Rattle.std.proofs.lemmas.Bool.{and_parts}
 use Rattle.std.proofs.lemmas.Slice.Eq.{bytes_eq-Decides}
@@ -10,9 +10,9 @@ use Rattle.cedar_language.specs.Tree.{Tree}
 use Rattle.cedar_grammar.specs.Names.{is_text, is_among, are_distinct}
 use Rattle.cedar_world.specs.Asking.{Part, Given, Entries, Question}
 use Rattle.cedar_world.specs.Bodies.{and_then, read_with, Fields, named_fields, entries_of, EntityBody, entity_with, question_with}
-use Rattle.cedar_json.specs.Entities.{entity_in, each_entity, parents_in, fields_in, under, only_under, if_there, entity_keys, body_of, body_in, bodies_of, entities_in, entities_of}
-use Rattle.cedar_json.specs.Questions.{asked_in, part_in, context_in, or_empty, question_keys, asked_of, question_in, question_of}
-use Rattle.cedar_json.specs.Values.{uid_in, datum, value_of}
+use Rattle.cedar_json.specs.Entities.{entity_in, each_entity, parents_in, fields_in, under, only_under, if_there, entity_keys, body_of, body_in, bodies_of, entities_in}
+use Rattle.cedar_json.specs.Questions.{asked_in, part_in, context_in, or_empty, question_keys, asked_of, question_in}
+use Rattle.cedar_json.specs.Values.{uid_in, datum}
 use Rattle.cedar_json.proofs.Keys.{datum_unique, uid_unique, keys_apart, not_true, one_apart, then_is, option_is}
 
 -- ---- members by their keys

@@ -1,5 +1,5 @@
 -- Entities in several bodies, each within a limit.
-use Rattle.std.specs.Prelude.{◌≡◌, ℕ, ◌+◌, ◌<◌, ◌≤◌, zero, suc, true, Option, Some, None, is_some, List, [], ◌∷◌, ◌++◌, length, IsUtf8, encode_utf8_all, ⊤}
+use Rattle.std.specs.Prelude.{◌≡◌, ℕ, ◌<◌, ◌≤◌, zero, true, Option, Some, None, is_some, List, [], ◌∷◌, ◌++◌, length, IsUtf8, encode_utf8_all, ⊤}
 use Rattle.json.specs.Find.{get_item}
 use Rattle.json.specs.Json.{Json, array, Items, no_items, item, document}
 use Rattle.cedar_language.specs.Uid.{Text}

@@ -1,5 +1,5 @@
 -- What the calls answer: the Cedar text of what a text of JSON says, or why it says nothing.
-use Rattle.std.specs.Prelude.{◌≡◌, Bool, true, Option, Some, None, is_some, Result, Ok, Err, List, ⊤}
+use Rattle.std.specs.Prelude.{◌≡◌, true, Option, Some, None, is_some, Result, Ok, Err, List, ⊤}
 use Rattle.json.specs.Json.{Json, document}
 use Rattle.json.specs.Strict.{HasUniqueKeys}
 use Rattle.cedar_language.specs.Uid.{Text}

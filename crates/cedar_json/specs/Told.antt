@@ -1,5 +1,5 @@
 -- The words of an entity that stands in a string.
-use Rattle.std.specs.Prelude.{◌≡◌, ℕ, ◌<◌, List, length, Some, true}
+use Rattle.std.specs.Prelude.{◌≡◌, ◌<◌, List, length, Some, true}
 use Rattle.cedar_language.specs.Uid.{Text}
 use Rattle.cedar_grammar.specs.Token.{Word, Token, id_of}
 use Rattle.cedar_world.specs.Bodies.{is_free_word}

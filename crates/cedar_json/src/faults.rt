@@ -87,7 +87,7 @@ fn found_in<'v>(
     };
     match found {
         Some(found) => Ok(found),
-        None => Ok(Found::new(alloc, FaultKind::Kind, "the text", "something else")),
+        None => Ok(Found::new(alloc, FaultKind::Kind, "the text", "value of its kind")),
     }
 }
 

@@ -44,6 +44,7 @@ fn values_are_written(rt: HostRuntime) {
         ),
         (r#"{"__entity": {"id": "x", "type": "U"}}"#, r#"U::"x""#),
         (r#"{"__extn": {"fn": "ip", "arg": "::1"}}"#, r#"ip("::1")"#),
+        (r#"{"__extn": {"fn": "f", "args": [1, 2]}}"#, "f(1,2,)"),
         (
             r#"{"__extn": {"args": ["1.5"], "fn": "decimal"}}"#,
             r#"decimal("1.5",)"#,
@@ -86,6 +87,10 @@ fn entities_are_written(rt: HostRuntime) {
             r#"[{"uid": U::"a","parents": [],"attrs": {},"tags": {},},]"#,
         ),
         (
+            r#"[{"uid": {"type": "U", "id": "a"}, "parents": [{"type": "G", "id": "g"}], "attrs": {"n": 1}, "tags": {}}]"#,
+            r#"[{"uid": U::"a","parents": [G::"g",],"attrs": {"n": 1,},"tags": {},},]"#,
+        ),
+        (
             r#"[{"attrs": {"n": 1}, "parents": [{"__entity": {"type": "G", "id": "g"}}, {"type": "H", "id": "h"}],
                  "tags": {"t": []}, "uid": {"type": "U", "id": "a"}}]"#,
             r#"[{"uid": U::"a","parents": [G::"g",H::"h",],"attrs": {"n": 1,},"tags": {"t": [],},},]"#,
@@ -121,6 +126,10 @@ fn questions_are_written(rt: HostRuntime) {
             r#"{"principal": {"type": "U", "id": "a"}, "action": {"__entity": {"type": "Action", "id": "view"}},
                 "resource": "A::B::\"x\""}"#,
             r#"{"principal": U::"a","action": Action::"view","resource": A::B::"x","context": {},}"#,
+        ),
+        (
+            r#"{"principal": {"type": "U", "id": "a"}, "action": "Action::\"view\"", "resource": {"type": "Photo", "id": "1"}, "context": {"hour": 9}}"#,
+            r#"{"principal": U::"a","action": Action::"view","resource": Photo::"1","context": {"hour": 9,},}"#,
         ),
         // other order, blanks in a string, and an escape of Cedar's
         (
@@ -323,6 +332,12 @@ fn fault_line(
     }
 }
 
+/// A list in 128 others.
+const DEEP: &str = concat!(
+    "[[[[[[[[[[[[[[[[[[[[[[[[[[[[[[[[[[[[[[[[[[[[[[[[[[[[[[[[[[[[[[[[[[[[[[[[[[[[[[[[[[[[[[[[[[[[[[[[[[[[[[[[[[[[[[[[[[[[[[[[[[[[[[[[[",
+    "]]]]]]]]]]]]]]]]]]]]]]]]]]]]]]]]]]]]]]]]]]]]]]]]]]]]]]]]]]]]]]]]]]]]]]]]]]]]]]]]]]]]]]]]]]]]]]]]]]]]]]]]]]]]]]]]]]]]]]]]]]]]]]]]]"
+);
+
 #[test]
 fn faults_of_values_are_told(rt: HostRuntime) {
     let cases = [
@@ -334,6 +349,7 @@ fn faults_of_values_are_told(rt: HostRuntime) {
         ("[1,\n }", "NotJson  2:2 no JSON here"),
         (r#"{"a" 1}"#, "NotJson  1:2 no JSON here"),
         (r#"{"a": "\ud800"}"#, "NotJson  1:7 no JSON here"),
+        (DEEP, "Nesting  1:129 it nests deeper than 128"),
         ("1 2", "NotJson  1:3 no JSON here"),
         ("[1", "NotJson  1:3 no JSON here"),
         (

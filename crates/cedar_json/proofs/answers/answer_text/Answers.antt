@@ -1,5 +1,4 @@
-use Rattle.std.proofs.Common.{◌≡◌, ◌≤◌, Some, ap, sym, ◌∙◌, subst}
-use Rattle.std.specs.Prelude.{string_bytes}
+use Rattle.std.proofs.Common.{◌≤◌, Some, ap, sym, ◌∙◌, subst}
 use Rattle.json.specs.Json.{document, max_depth}
 use Rattle.json.specs.Tree.{depth, HasNumbers}
 use Rattle.cedar_replies.specs.Replies.{answer_of}

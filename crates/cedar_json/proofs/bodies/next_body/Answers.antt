@@ -3,7 +3,6 @@ use Rattle.std.specs.Prelude.{string_bytes, encode_utf8}
 use Rattle.std.proofs.lemmas.List.{drop_more}
 use Rattle.std.proofs.lemmas.Result.{IfOk-weaker}
 use Rattle.std.proofs.lemmas.Str.{IsUtf8-string_bytes}
-use Rattle.json.specs.Json.{item}
 use Rattle.json.specs.Value.{value_view, items_view}
 use Rattle.cedar_json.specs.Bodies.{IsNext}
 use Rattle.cedar_json.proofs.Splitting.{opened, opened_more, closes, is_long}

@@ -1,4 +1,4 @@
-use Rattle.std.proofs.Common.{◌≡◌, is_some, ap, sym, ◌∙◌}
+use Rattle.std.proofs.Common.{is_some, ap, sym, ◌∙◌}
 use Rattle.json.specs.Value.{value_view, members_view}
 use Rattle.cedar_json.specs.Entities.{fields_in, if_there}
 use Rattle.cedar_json.proofs.Sound.{some_there, unique_under}

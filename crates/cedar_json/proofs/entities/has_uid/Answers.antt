@@ -1,6 +1,4 @@
-use Rattle.std.proofs.Common.{◌≡◌, is_some, ap, sym, ◌∙◌}
-use Rattle.std.specs.Prelude.{option_map}
-use Rattle.json.specs.Value.{value_view}
+use Rattle.std.proofs.Common.{is_some, ap, ◌∙◌}
 use Rattle.cedar_world.specs.Bodies.{and_then}
 use Rattle.cedar_json.specs.Entities.{entity_in}
 use Rattle.cedar_json.proofs.entities.has_uid.Goals as goal

@@ -4,7 +4,7 @@ use Rattle.json.specs.Strict.{HasUniqueKeys, keys}
 use Rattle.json.specs.Value.{value_view, members_view}
 use Rattle.json.proofs.Trees.{view-Object}
 use Rattle.cedar_grammar.specs.Names.{are_distinct}
-use Rattle.cedar_json.specs.Entities.{only_under, entity_keys, body_of, body_in}
+use Rattle.cedar_json.specs.Entities.{body_of, body_in}
 use Rattle.cedar_json.proofs.Keys.{distinct_keys}
 use Rattle.cedar_json.proofs.entities.is_entity_body.Goals as goal
 

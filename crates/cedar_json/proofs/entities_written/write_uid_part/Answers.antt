@@ -1,5 +1,5 @@
-use Rattle.std.proofs.Common.{◌≡◌, ◌++◌, ap, sym, ◌∙◌}
-use Rattle.std.specs.Prelude.{codes, option_map, string_bytes, encode_utf8_all}
+use Rattle.std.proofs.Common.{◌++◌, ap, ◌∙◌}
+use Rattle.std.specs.Prelude.{codes, string_bytes, encode_utf8_all}
 use Rattle.json.specs.Value.{members_view}
 use Rattle.cedar_json.specs.Entities.{under}
 use Rattle.cedar_json.specs.EntitiesWritten.{uid_part}

@@ -1,4 +1,4 @@
-use Rattle.std.proofs.Common.{◌≡◌, true, false, is_some, sym, ◌∙◌, arith}
+use Rattle.std.proofs.Common.{◌≡◌, true, false, sym, ◌∙◌, arith}
 use Rattle.std.specs.Prelude.{string_bytes}
 use Rattle.std.proofs.lemmas.Str.{IsUtf8-string_bytes}
 use Rattle.json.specs.Value.{value_view}

@@ -1,5 +1,5 @@
 -- Each part is a value where it is said to be one.
-use Rattle.std.proofs.Common.{◌≡◌, ◌+◌, Bool, true, false, not, ◌&&◌, is_some, refl, [], ◌∷◌, length, drop, ap, sym, ◌∙◌, subst, arith}
+use Rattle.std.proofs.Common.{◌≡◌, ◌+◌, true, false, not, ◌&&◌, is_some, refl, [], ◌∷◌, length, drop, ap, sym, ◌∙◌, subst, arith}
 use Rattle.std.specs.Prelude.{codes}
 use Rattle.std.proofs.lemmas.List.{drop_more}
 use Rattle.json.specs.Json.{array, object}

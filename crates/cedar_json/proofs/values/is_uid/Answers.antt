@@ -1,6 +1,5 @@
 use Rattle.std.proofs.Common.{◌≡◌, true, false, is_some, ap, sym, ◌∙◌, arith}
 use Rattle.std.specs.Prelude.{codes}
-use Rattle.json.specs.Value.{value_view}
 use Rattle.cedar_grammar.specs.Names.{is_text}
 use Rattle.cedar_json.specs.Values.{uid_in}
 use Rattle.cedar_json.proofs.Sound.{type_first, id_first, neither_first}

@@ -1,12 +1,12 @@
 -- Each part is written behind those before it.
-use Rattle.std.proofs.Common.{◌≡◌, ◌+◌, ℕ, Bool, true, false, cond, [], ◌∷◌, ◌++◌, length, drop, ap, sym, ◌∙◌, subst, append-nil, arith}
+use Rattle.std.proofs.Common.{◌≡◌, ◌+◌, true, false, cond, [], ◌∷◌, ◌++◌, length, drop, ap, sym, ◌∙◌, append-nil, arith}
 use Rattle.std.specs.Prelude.{codes, string_bytes, encode_utf8_all}
 use Rattle.std.proofs.lemmas.List.{drop_more}
-use Rattle.json.specs.Json.{Json, Members, array, object, no_members, member}
+use Rattle.json.specs.Json.{array, object}
 use Rattle.json.specs.Value.{value_view, items_view, members_view}
 use Rattle.json.proofs.Trees.{view-Array, view-Object}
 use Rattle.cedar_grammar.specs.Names.{is_text}
-use Rattle.cedar_json.specs.Parts.{key_written, arguments_in}
+use Rattle.cedar_json.specs.Parts.{arguments_in}
 use Rattle.cedar_json.specs.Written.{written, items_written, members_written, name_written, list_written, call_written, uid_written}
 use Rattle.cedar_json.proofs.Appending.{pushed, grown, on_grown, on_pushed, on_same, on_closed, item_step, entry_step, none_left}
 use Rattle.cedar_json.proofs.Taken.{one_is, two_are, not_two_call, many_written, one_written, call_is, entity_written_is, call_written_is}

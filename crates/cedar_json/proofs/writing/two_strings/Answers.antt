@@ -1,7 +1,5 @@
-use Rattle.std.proofs.Common.{◌≡◌, [], ◌∷◌, length, Option, None, ap, sym, ◌∙◌, subst, arith}
-use Rattle.std.specs.Prelude.{option_map}
-use Rattle.json.specs.Find.{as_str}
-use Rattle.json.specs.Json.{object, string, member, no_members}
+use Rattle.std.proofs.Common.{◌≡◌, [], ◌∷◌, length, ap, sym, ◌∙◌, subst, arith}
+use Rattle.json.specs.Json.{object}
 use Rattle.json.specs.Value.{value_view, members_view}
 use Rattle.json.proofs.Trees.{view-Object}
 use Rattle.cedar_json.specs.Parts.{IsNoPair}
