@@ -38,6 +38,13 @@ module _ {K : Type 0} {eq : K → K → Bool} (laws : IsEquivalence eq) where
   pub finds_here : (all : List (Reached K)) (i : ℕ) (r : Reached K) → slice_get all i ≡ Some r → IsTrue (is_member eq r.keys.items r.from) → IsTrue (finds eq all r.from r.from)
   finds_here all i r here itself = list_any-at (λ (s : Reached K). eq r.from s.from && is_member eq s.keys.items r.from) all i r here (and_both _ _ (laws.refl r.from) itself)
 
+  pub finds_alike : (all : List (Reached K)) (x k : K) → IsTrue (eq x k) → finds eq all x x ≡ finds eq all k k
+  finds_alike [] x k e = refl
+  finds_alike (r ∷ all) x k e =
+      ap (λ b. (b && is_member eq r.keys.items x) || finds eq all x x) (laws.congr x k r.from e)
+      ∙ ap (λ b. (eq k r.from && b) || finds eq all x x) (member_alike laws r.keys.items x k e)
+      ∙ ap (λ b. (eq k r.from && is_member eq r.keys.items k) || b) (finds_alike all x k e)
+
 module _ {K : Type 0} {eq : K → K → Bool} (laws : IsEquivalence eq) (next : K → List K) (same : AreAlike laws next) where
   pub Reaches-alike : (a b q : K) → IsTrue (eq a b) → Reaches (IsEdge eq next) b q → Reaches (IsEdge eq next) a q
   Reaches-alike a b q e (edge h) = edge (ap (λ xs. is_member eq xs q) (same a b e) ∙ h)

@@ -10,3 +10,4 @@ pub mod KeysFound
 pub mod WholeRows
 pub mod Turned
 pub mod Leading
+pub mod AddedEdges

@@ -47,8 +47,8 @@ pub(crate) fn reached_from_each<K: Eq + Hash + Clone + Drop, V: TCNode<K>, G: TC
     Ok(all)
 }
 
-/// A key that reaches itself, if there is one.
-pub(crate) fn find_cycle<K: Eq + Hash>(all: &[Reached<K>]) -> Option<&K>
+// A key that reaches itself, if there is one.
+fn find_cycle<K: Eq + Hash>(all: &[Reached<K>]) -> Option<&K>
     ensures found { IfSome result (λ k. IsTrue (finds K.eq all.now k.now k.now)) }
     ensures none { IfNone result ((a : K) → finds K.eq all.now a a ≡ false) }
 {
@@ -58,6 +58,25 @@ pub(crate) fn find_cycle<K: Eq + Hash>(all: &[Reached<K>]) -> Option<&K>
         }
     }
     None
+}
+
+/// Refuses a key that reaches itself, where there may be none. Refused otherwise only where memory runs out.
+pub(crate) fn refuse_cycle<K: Eq + Hash + Clone>(
+    all: &[Reached<K>],
+    enforce_dag: bool,
+) -> Result<(), TcError<K>>
+    requires { ClonesAreEqual K.eq K.is_clone }
+    ensures acyclic { OnOk result (IsTrue enforce_dag → (a : K) → finds K.eq all.now a a ≡ false) }
+    ensures refused { IfErr result (IsTcRefusal enforce_dag (λ k. IsTrue (finds K.eq all.now k k))) }
+{
+    if enforce_dag {
+        if let Some(on_cycle) = find_cycle(all) {
+            return Err(TcError::HasCycle(HasCycle {
+                vertex_with_loop: on_cycle.clone()?,
+            }));
+        }
+    }
+    Ok(())
 }
 
 /// Adds what was found at each node. Refused where memory runs out; some of it may then be added.
@@ -156,13 +175,7 @@ pub fn repair_tc<K: Eq + Hash + Clone + Drop, V: TCNode<K>, G: TCGraph<K, V>>(
     ensures same { SameNodes V.is_same (G.found nodes.old) (G.found nodes.new) }
 {
     let all = reached_from_each(alloc, nodes, keys_to_fix, false)?;
-    if enforce_dag {
-        if let Some(on_cycle) = find_cycle(&all) {
-            return Err(TcError::HasCycle(HasCycle {
-                vertex_with_loop: on_cycle.clone()?,
-            }));
-        }
-    }
+    refuse_cycle(&all, enforce_dag)?;
     add_all(nodes, all)?;
     Ok(())
 }

@@ -5,8 +5,8 @@ ghost use Rattle.cedar_closure.specs.Graph.{edges_at, HasEdge, SameKeys, SameNod
 ghost use Rattle.cedar_language.specs.Facts.{Reaches};
 ghost use Rattle.cedar_closure.specs.Refused.{IsTcRefusal};
 
-use crate::closing::{add_all, compute_tc, find_cycle, keys_of, reached_from_each};
-use crate::errors::{HasCycle, TcError};
+use crate::closing::{add_all, compute_tc, keys_of, reached_from_each, refuse_cycle};
+use crate::errors::TcError;
 use crate::graphs::TCGraph;
 use crate::nodes::TCNode;
 use std::alloc::{AllocError, Global};
@@ -93,13 +93,7 @@ pub fn rebuild_tc_at<K: Eq + Hash + Clone + Drop, V: TCNode<K>, G: TCGraph<K, V>
     ensures same { SameNodes V.is_same (G.found nodes.old) (G.found nodes.new) }
 {
     let all = reached_from_each(alloc, nodes, keys, true)?;
-    if enforce_dag {
-        if let Some(on_cycle) = find_cycle(&all) {
-            return Err(TcError::HasCycle(HasCycle {
-                vertex_with_loop: on_cycle.clone()?,
-            }));
-        }
-    }
+    refuse_cycle(&all, enforce_dag)?;
     reset_all(nodes, keys)?;
     add_all(nodes, all)?;
     Ok(())

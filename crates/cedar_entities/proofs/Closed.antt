@@ -41,15 +41,15 @@ same_held None b h = ap (option_map held_of) h
 same_held (Some e) None h = absurd h
 same_held (Some e) (Some f) h = λ i. Some (record { attributes = h.attributes i; tags = h.tags i; parents = h.parents i })
 
-there_at : (o p : Option EntityData) → MatchOption o (p ≡ None) (λ v. IsSomeAnd p (IsSameBesideAncestors v)) → IsSome o → IsSome p
+pub there_at : (o p : Option EntityData) → MatchOption o (p ≡ None) (λ v. IsSomeAnd p (IsSameBesideAncestors v)) → IsSome o → IsSome p
 there_at None p h k = absurd (true≢false (sym k))
 there_at (Some e) None h k = absurd h
 there_at (Some e) (Some f) h k = refl
 
-to_kept : (m : Lookup) (a b : Uid) → HasEdge same_uid kept_edges m a b → IsKept m a b
+pub to_kept : (m : Lookup) (a b : Uid) → HasEdge same_uid kept_edges m a b → IsKept m a b
 to_kept m a b h = sym (kept_edge (m a) b) ∙ h
 
-from_kept : (m : Lookup) (a b : Uid) → IsKept m a b → HasEdge same_uid kept_edges m a b
+pub from_kept : (m : Lookup) (a b : Uid) → IsKept m a b → HasEdge same_uid kept_edges m a b
 from_kept m a b h = kept_edge (m a) b ∙ h
 
 to_parent : (m : Lookup) (a b : Uid) → HasEdge same_uid parent_edges m a b → IsParent (held_in m) a b
@@ -58,7 +58,7 @@ to_parent m a b h = sym (parent_edge (m a) b) ∙ h
 from_parent : (m : Lookup) (a b : Uid) → IsParent (held_in m) a b → HasEdge same_uid parent_edges m a b
 from_parent m a b h = parent_edge (m a) b ∙ h
 
-held_same : (m n : Lookup) → SameNodes IsSameBesideAncestors m n → (uid : Uid) → held_in n uid ≡ held_in m uid
+pub held_same : (m n : Lookup) → SameNodes IsSameBesideAncestors m n → (uid : Uid) → held_in n uid ≡ held_in m uid
 held_same m n h uid = same_held (m uid) (n uid) (h uid)
 
 -- what a rebuilt closure is

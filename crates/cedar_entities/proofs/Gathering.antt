@@ -178,19 +178,20 @@ uids_added all left us none underway q = sym (or_none (list_any (same_uid q) us)
     or_none true = refl
     or_none false = refl
 
--- ---- one value of a map is cut
+-- ---- one value of a map is changed
 
-module _ (m n : BTreeMap Uid EntityData) (at : Uid) (g : UidSet) where
-  pub cut_there : (e w : EntityData) → WritesThrough uid_cmp (uid_cmp at) m w n → Some e ≡ in_map m at → w ≡ without g e → (uid : Uid) → in_map n uid ≡ cond (same_uid at uid) (option_map (without g) (in_map m uid)) (in_map m uid)
-  cut_there e w is here cut uid = written_at m n at e w is here uid ∙ by_test (same_uid at uid) refl
+module _ (m n : BTreeMap Uid EntityData) (at : Uid) (change : EntityData → EntityData) where
+  pub changed_there : (e w : EntityData) → WritesThrough uid_cmp (uid_cmp at) m w n → Some e ≡ in_map m at → w ≡ change e → (uid : Uid)
+      → in_map n uid ≡ cond (same_uid at uid) (option_map change (in_map m uid)) (in_map m uid)
+  changed_there e w is here changed uid = written_at m n at e w is here uid ∙ by_test (same_uid at uid) refl
     where
-      by_test : (b : Bool) → same_uid at uid ≡ b → cond b (Some w) (in_map m uid) ≡ cond b (option_map (without g) (in_map m uid)) (in_map m uid)
-      by_test true t = ap Some cut ∙ ap (option_map (without g)) (here ∙ ap (in_map m) (uid_is at uid t))
+      by_test : (b : Bool) → same_uid at uid ≡ b → cond b (Some w) (in_map m uid) ≡ cond b (option_map change (in_map m uid)) (in_map m uid)
+      by_test true t = ap Some changed ∙ ap (option_map change) (here ∙ ap (in_map m) (uid_is at uid t))
       by_test false t = refl
 
-  pub cut_nowhere : n ≡ m → None ≡ in_map m at → (uid : Uid) → in_map n uid ≡ cond (same_uid at uid) (option_map (without g) (in_map m uid)) (in_map m uid)
-  cut_nowhere is here uid = ap (λ x. in_map x uid) is ∙ by_test (same_uid at uid) refl
+  pub changed_nowhere : n ≡ m → None ≡ in_map m at → (uid : Uid) → in_map n uid ≡ cond (same_uid at uid) (option_map change (in_map m uid)) (in_map m uid)
+  changed_nowhere is here uid = ap (λ x. in_map x uid) is ∙ by_test (same_uid at uid) refl
     where
-      by_test : (b : Bool) → same_uid at uid ≡ b → in_map m uid ≡ cond b (option_map (without g) (in_map m uid)) (in_map m uid)
-      by_test true t = let none = here ∙ ap (in_map m) (uid_is at uid t) in sym none ∙ ap (option_map (without g)) none
+      by_test : (b : Bool) → same_uid at uid ≡ b → in_map m uid ≡ cond b (option_map change (in_map m uid)) (in_map m uid)
+      by_test true t = let none = here ∙ ap (in_map m) (uid_is at uid t) in sym none ∙ ap (option_map change) none
       by_test false t = refl

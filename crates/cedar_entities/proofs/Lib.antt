@@ -20,3 +20,6 @@ mod Known
 pub mod Whole
 mod Dropping
 mod InPlace
+pub mod Inserted
+pub mod GainedEdges
+pub mod Gained

@@ -6,7 +6,7 @@ use Rattle.std.specs.Ordering.{is_eq, is_lt, ordering_reverse}
 use Rattle.std.specs.Result.{is_ok}
 use Rattle.std.specs.FinSet as set
 use Rattle.std.specs.List.{list_any, dedup, dedup_from, filter}
-use Rattle.std.specs.List.Sorted.{IsPermutation, IsSorted, IsSortedBy, IsBinarySearchResult, IsSearchInRange}
+use Rattle.std.specs.List.Sorted.{IsPermutation, IsSorted, IsSortedBy, IsBinarySearchResult, IsSearchInRange, IsPartitionPoint}
 use Rattle.std.proofs.lemmas.Bool.{cases_lt}
 use Rattle.std.proofs.lemmas.List.Kept.{IsStrictlySortedBy-dedup}
 use Rattle.std.proofs.lemmas.List.Sorted.{list_any-IsPermutation, searchable_from_sorted}
@@ -82,6 +82,11 @@ searched xs u rises (Err i) within found =
       | inl h ↦ tied u (slice_index_or xs k u) Less (split.0 k u (omega arith) h)
       | inr h ↦ tied u (slice_index_or xs k u) Greater (split.1 k u h l)
     ]))
+
+-- and else parts it
+pub parted : (xs : List Uid) (u : Uid) (i : ℕ) → AreRising xs → IsBinarySearchResult (λ y. uid_cmp y u) xs (Err i)
+    → IsPartitionPoint (λ y. uid_cmp y u ≡ Less) (λ y. uid_cmp y u ≡ Greater) xs i
+parted xs u i rises found = found (searchable_from_sorted uid_cmp_total (λ y. y) xs u (sorted_once xs rises))
 
 -- ---- two lists that have a uid in common
 

@@ -48,6 +48,18 @@ found_first a b r e t = t ∙ sym (ap (λ x. x || b) (sym e ∙ t))
 pub found_second : (a b r s : Bool) → r ≡ a → r ≡ false → s ≡ b → s ≡ (a || b)
 found_second a b r s e f h = h ∙ sym (ap (λ x. x || b) (sym e ∙ f))
 
+-- first those of one set go, and then those of another
+pub differences : (us s t : UidSet) → set.difference (set.difference us s) t ≡ set.difference us (set.union s t)
+differences us s t = same_uids _ _ (λ q.
+    set.contains-difference uid_cmp_total (set.difference us s) t q ∙ ap (λ b. b && not (set.contains t q)) (set.contains-difference uid_cmp_total us s q)
+    ∙ neither (set.contains us q) (set.contains s q) (set.contains t q) ∙ ap (λ b. set.contains us q && not b) (sym (contains-both s t q))
+    ∙ sym (set.contains-difference uid_cmp_total us (set.union s t) q))
+  where
+    neither : (a b c : Bool) → ((a && not b) && not c) ≡ (a && not (b || c))
+    neither true true c = refl
+    neither true false c = refl
+    neither false b c = refl
+
 pub list_rising : (us : List Uid) (s : UidSet) → AreRising us → set.from_list us ≡ s → IsListOf us s
 list_rising us s rises is = record { members = λ q. sym (contains-listed us q) ∙ ap (λ x. set.contains x q) is; distinct = rising_distinct us rises }
 

@@ -50,14 +50,14 @@ fewer p q on x fails passes (u ∷ us) h = elim (same_uid x u) as (λ b. same_ui
 
 -- ---- listed uids that pass a test
 
-one_of : (p : Uid → Bool) (x : Uid) (us : List Uid) → list_any (same_uid x) us ≡ true → p x ≡ true → list_any p us ≡ true
+pub one_of : (p : Uid → Bool) (x : Uid) (us : List Uid) → list_any (same_uid x) us ≡ true → p x ≡ true → list_any p us ≡ true
 one_of p x [] h k = absurd (true≢false (sym h))
 one_of p x (u ∷ us) h k = elim (same_uid x u) as (λ b. same_uid x u ≡ b → (b || list_any (same_uid x) us) ≡ true → (p u || list_any p us) ≡ true) [
   | true ↦ λ e r. ap (λ b. b || list_any p us) (ap p (sym (uid_is x u e)) ∙ k)
   | false ↦ λ e r. or_else (p u) (list_any p us) (one_of p x us r k)
 ] refl h
 
-which : (p : Uid → Bool) (us : List Uid) → list_any p us ≡ true → (x : Uid) × (list_any (same_uid x) us ≡ true) × (p x ≡ true)
+pub which : (p : Uid → Bool) (us : List Uid) → list_any p us ≡ true → (x : Uid) × (list_any (same_uid x) us ≡ true) × (p x ≡ true)
 which p [] h = absurd (true≢false (sym h))
 which p (u ∷ us) h = elim (p u) as (λ b. p u ≡ b → (b || list_any p us) ≡ true → (x : Uid) × (list_any (same_uid x) (u ∷ us) ≡ true) × (p x ≡ true)) [
   | true ↦ λ e r. (u, ap (λ b. b || list_any (same_uid u) us) (same_uid_equiv.refl u), e)

@@ -12,3 +12,4 @@ pub mod Modes
 pub mod Children
 pub mod Store
 pub mod InPlace
+pub mod Gaining

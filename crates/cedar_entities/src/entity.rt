@@ -206,6 +206,23 @@ impl Entity {
         self.parents.meets(uids) || self.indirect_ancestors.meets(uids)
     }
 
+    /// Whether each of its parents is one of the other's.
+    pub(crate) fn shares_parents(&self, other: &Entity) -> bool
+        ensures { result ≡ set.is_subset self.now.parents other.now.parents }
+    {
+        are_listed_parents(self.parents.as_slice(), other)
+    }
+
+    /// Those of the uids that aren't its ancestors; refused for memory alone.
+    pub(crate) fn lacking(&self, uids: &EntityUIDs) -> Result<EntityUIDs, AllocError>
+        ensures { IfOk result (λ others. others ≡ set.difference uids.now (ancestors_of self.now)) }
+    {
+        let mut others = Clone::clone(uids)?;
+        others.subtract(&self.parents);
+        others.subtract(&self.indirect_ancestors);
+        Ok(others)
+    }
+
     /// Its parents, each below the next.
     pub fn parents(&self) -> Uids<'_>
         ensures listed { IsListOf result self.now.parents }
@@ -253,6 +270,12 @@ impl Entity {
 }
 
 // ---- comparisons
+
+fn are_listed_parents(uids: &[EntityUID], of: &Entity) -> bool
+    ensures { result ≡ list_all (set.contains of.now.parents) uids.now }
+{
+    uids.iter().all(|uid| of.is_child_of(uid))
+}
 
 fn are_listed_ancestors(uids: &[EntityUID], of: &Entity) -> bool
     ensures { result ≡ list_all (set.contains (ancestors_of of.now)) uids.now }
@@ -381,6 +404,22 @@ impl Entity {
     {
         let others = others_than(&self.parents, uids);
         self.indirect_ancestors.extend(others)
+    }
+
+    /// Keeps these uids alone beside the parents, those that are parents left out.
+    pub(crate) fn set_ancestors(&mut self, uids: EntityUIDs)
+        ensures { self.new ≡ record self.old { indirect = set.difference uids self.old.parents } }
+    {
+        let mut others = uids;
+        others.subtract(&self.parents);
+        self.indirect_ancestors = others;
+    }
+
+    /// Takes away those of the uids that are kept beside the parents.
+    pub(crate) fn remove_indirect_ancestors(&mut self, uids: &EntityUIDs)
+        ensures { self.new ≡ record self.old { indirect = set.difference self.old.indirect uids.now } }
+    {
+        self.indirect_ancestors.subtract(uids);
     }
 
     /// Adds a parent, which isn't kept beside the parents any more. Refused for memory alone; the entity

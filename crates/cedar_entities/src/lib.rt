@@ -10,6 +10,7 @@ mod edits;
 pub mod entity;
 mod entity_displays;
 pub mod errors;
+mod gaining;
 mod in_place;
 mod iteration;
 mod nodes;

@@ -1,11 +1,15 @@
 //! Edits of a store in place: a refused one leaves the store as it was.
-ghost use Rattle.std.specs.Prelude.{◌≡◌, OnErr, IfOk, IfErr, IfSome};
+ghost use Rattle.std.specs.Prelude.{◌≡◌, [], ◌∷◌, IsTrue, OnOk, OnErr, IfOk, IfErr, IfSome};
 ghost use Rattle.std.specs.FinSet as set;
+ghost use Rattle.std.specs.List.{list_all};
 ghost use Rattle.cedar_language.specs.Order.{uid_cmp};
+ghost use Rattle.cedar_entities.specs.Data.{EntityData};
 ghost use Rattle.cedar_entities.specs.Edits.{put, remove, ArePlain};
+ghost use Rattle.cedar_entities.specs.Gaining.{GainsEdges, ListsBelow, is_new_in};
 ghost use Rattle.cedar_entities.specs.Beside.{CoversEntities};
 ghost use Rattle.cedar_entities.specs.InPlace.{left_by, IsLeft};
-ghost use Rattle.cedar_entities.specs.Kept.{Covers};
+ghost use Rattle.cedar_entities.specs.Kept.{Covers, put_over};
+ghost use Rattle.cedar_entities.specs.Modes.{IsComputed, IsClosureRefusal};
 ghost use Rattle.cedar_entities.specs.Refusals.{IsMemory};
 ghost use Rattle.cedar_entities.specs.Store.{found_in, held_at, IsClosed, is_partial_store, Leaves, AddsAs, Adds};
 ghost use Rattle.cedar_entities.specs.declared.closing.TCComputation.TheVariants.{ComputeNow};
@@ -15,9 +19,10 @@ use crate::closing::TCComputation;
 use crate::edits::uids_of;
 use crate::entity::Entity;
 use crate::errors::EntitiesError;
+use crate::gaining::{Gain, are_new, gain_in_place, gained_by, gains_edges};
 use crate::in_place::{add_in_place, put_in_place, remove_in_place};
 use crate::store::Entities;
-use crate::touching::{are_few, touched_below};
+use crate::touching::{are_few, few_or_touched, touched_below};
 use cedar_literals::uids::EntityUID;
 use std::alloc::{AllocError, Global};
 use std::collections::BTreeSet;
@@ -61,6 +66,62 @@ impl Entities {
     }
 }
 
+// ---- edits of one entity that only add edges
+
+impl Entities {
+    // Whether the edit is one, the ancestors kept being whole.
+    fn only_gains(&self, entities: &[Entity]) -> bool
+        ensures { IsTrue result → IsClosed self.now × GainsEdges (found_in self.now) entities.now }
+    {
+        if !self.is_closed {
+            return false;
+        }
+        gains_edges(&self.entities, entities)
+    }
+
+    // The uids of the entities below those edited, where these gain ancestors: few are found by their children, and
+    // many by a look at all.
+    fn gaining(
+        &self,
+        alloc: Global,
+        entities: &[Entity],
+        gain: &Gain,
+    ) -> Result<Vec<EntityUID>, AllocError>
+        ensures { IfOk result (λ below. (e : EntityData) → entities.now ≡ e ∷ [] → ListsBelow (found_in self.now) e.uid gain.now.more below.items) }
+    {
+        if gain.is_nothing() {
+            return Ok(Vec::new(alloc));
+        }
+        let uids = uids_of(alloc, entities)?;
+        let few = self.touched_few(alloc, &uids)?;
+        few_or_touched(alloc, &self.entities, few, &uids)
+    }
+
+    // Puts the entity, and adds what it gains to those below it.
+    fn gain(&mut self, alloc: Global, entities: Vec<Entity>) -> Result<(), EntitiesError>
+        requires closed { IsClosed self.old }
+        requires gains { GainsEdges (found_in self.old) entities.items }
+        ensures edited { OnOk result (IsComputed (put_over (found_in self.old) entities.items) (found_in self.new)) }
+        ensures refused { IfErr result (IsClosureRefusal ComputeNow (put_over (found_in self.old) entities.items)) }
+        ensures left { OnErr result (IsLeft self.old self.new) }
+        ensures partial { is_partial_store self.new ≡ is_partial_store self.old }
+    {
+        let gain = gained_by(alloc, &self.entities, &entities)?;
+        let below = self.gaining(alloc, &entities, &gain)?;
+        let edges = edges_of(alloc, &self.entities, &entities, &[])?;
+        let edited = gain_in_place(
+            alloc,
+            &mut self.entities,
+            &mut self.children,
+            entities,
+            gain,
+            &below,
+        );
+        forget(&mut self.children, &self.entities, &edges);
+        edited
+    }
+}
+
 // ---- puts
 
 impl Entities {
@@ -70,7 +131,9 @@ impl Entities {
     /// Refused `TransitiveClosureError` for a cycle of parents, and where memory runs out. It closes again the listed
     /// entities and those below them, without a look at others, but that the first edit in place of a store looks
     /// once at each entity for its parents. Where those touched aren't few, or the store isn't known to be closed, it
-    /// edits a copy, and the next edit in place is a first one.
+    /// edits a copy, and the next edit in place is a first one. One entity that keeps each parent of the one held is
+    /// put at the cost of its ancestors and of those that it gains at each entity below it; where it gains none, no
+    /// other entity is looked at.
     pub fn upsert_in_place(
         &mut self,
         alloc: Global,
@@ -84,10 +147,24 @@ impl Entities {
             return self.upsert_copied(alloc, entities);
         }
         make_known(alloc, &self.entities, &mut self.children)?;
+        if self.only_gains(&entities) {
+            return self.put_gaining(alloc, entities);
+        }
         match self.touched_by(alloc, &entities)? {
             Some(stale) => self.upsert_at(alloc, entities, &stale),
             None => self.upsert_copied(alloc, entities),
         }
+    }
+
+    // The same of one entity that keeps each parent of the one held.
+    fn put_gaining(&mut self, alloc: Global, entities: Vec<Entity>) -> Result<(), EntitiesError>
+        requires closed { IsClosed self.old }
+        requires gains { GainsEdges (found_in self.old) entities.items }
+        ensures put { Leaves (put (held_at self.old) entities.items) (left_by result self.new) }
+        ensures left { OnErr result (IsLeft self.old self.new) }
+        ensures partial { is_partial_store self.new ≡ is_partial_store self.old }
+    {
+        self.gain(alloc, entities)
     }
 
     // The same, where those that are stale then are known.
@@ -148,10 +225,26 @@ impl Entities {
             return self.add_copied(alloc, entities);
         }
         make_known(alloc, &self.entities, &mut self.children)?;
+        if self.only_gains(&entities) && are_new(&self.entities, &entities) {
+            return self.add_gaining(alloc, entities);
+        }
         match self.touched_by(alloc, &entities)? {
             Some(stale) => self.add_at(alloc, entities, &stale),
             None => self.add_copied(alloc, entities),
         }
+    }
+
+    // The same of one entity, where none of its uid is held.
+    fn add_gaining(&mut self, alloc: Global, entities: Vec<Entity>) -> Result<(), EntitiesError>
+        requires closed { IsClosed self.old }
+        requires gains { GainsEdges (found_in self.old) entities.items }
+        requires new { IsTrue (list_all (is_new_in (found_in self.old)) entities.items) }
+        ensures edited { AddsAs ComputeNow (found_in self.old) entities.items (left_by result self.new) }
+        ensures added { ArePlain entities.items → Adds (held_at self.old) entities.items (left_by result self.new) }
+        ensures left { OnErr result (IsLeft self.old self.new) }
+        ensures partial { is_partial_store self.new ≡ is_partial_store self.old }
+    {
+        self.gain(alloc, entities)
     }
 
     // The same, where those that are stale then are known.

@@ -57,6 +57,22 @@ pub(crate) fn touched_below(
     index.that_lead_to(alloc, &edited, most_of_few(map.len()))
 }
 
+/// The few, or else those that an edit of the uids touches, found by a look at all.
+pub(crate) fn few_or_touched(
+    alloc: Global,
+    map: &BTreeMap<EntityUID, Entity>,
+    few: Option<Vec<EntityUID>>,
+    edited: &BTreeSet<EntityUID>,
+) -> Result<Vec<EntityUID>, AllocError>
+    requires { IfSome few (λ uids. Covers (in_map map.now) edited.now.keys uids.items) }
+    ensures { IfOk result (λ uids. Covers (in_map map.now) edited.now.keys uids.items) }
+{
+    match few {
+        Some(uids) => Ok(uids),
+        None => touched(alloc, map, edited),
+    }
+}
+
 // One in so many is few at most: where more are touched, a look at all costs less than to find and close those alone.
 const FEW: usize = 3;
 

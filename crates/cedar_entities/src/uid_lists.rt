@@ -1,8 +1,10 @@
 //! Lists of uids in rising order.
-ghost use Rattle.std.specs.Prelude.{◌≡◌, ◌<◌, ◌^◌, OnOk, OnErr, IfOk, length};
+ghost use Rattle.std.specs.Prelude.{◌≡◌, ◌↔◌, ◌<◌, ◌≤◌, ◌+◌, ◌^◌, ◌||◌, OnOk, OnErr, IfOk, IsTrue, length};
+ghost use Rattle.std.specs.Vec.{vec_len, vec_capacity};
 ghost use Rattle.std.specs.FinSet as set;
 ghost use Rattle.std.specs.List.{list_any};
 ghost use Rattle.cedar_language.specs.Order.{same_uid};
+ghost use Rattle.cedar_language.specs.Uid.{Uid};
 ghost use Rattle.cedar_entities.specs.Lists.{AreRising, AreInTurn};
 
 use crate::iteration::Uids;
@@ -107,6 +109,13 @@ impl EntityUIDs {
         self.uids.as_slice()
     }
 
+    /// Whether there are none.
+    pub(crate) fn is_empty(&self) -> bool
+        ensures { IsTrue result ↔ (self.now ≡ set.empty) }
+    {
+        self.as_slice().is_empty()
+    }
+
     /// Whether the uid is one of them: of few by a look at each, else by a binary search.
     pub fn contains(&self, uid: &EntityUID) -> bool
         ensures { result ≡ set.contains self.now uid.now }
@@ -175,6 +184,39 @@ impl Clone for EntityUIDs {
 
 // ---- changes
 
+// So many at most are put in their places one by one.
+const SHORT: usize = 64;
+
+// Puts a uid in its place in a list that rises and has room, where it isn't there.
+fn insert_in_turn(list: &mut Vec<EntityUID>, uid: EntityUID)
+    requires rising { AreRising list.old.items }
+    requires room { vec_len list.old < vec_capacity list.old }
+    ensures rising { AreRising list.new.items }
+    ensures added { (q : Uid) → list_any (same_uid q) list.new.items ≡ (same_uid q uid || list_any (same_uid q) list.old.items) }
+    ensures capacity { vec_capacity list.new ≡ vec_capacity list.old }
+    ensures len { vec_len list.new ≤ vec_len list.old + 1 }
+{
+    let Err(place) = list.as_slice().binary_search(&uid) else {
+        return;
+    };
+    let _inserted = list.insert(place, uid);
+}
+
+// Puts each of the uids in its place in a list that rises. Refused for memory alone, before one is put.
+fn insert_each_in_turn(list: &mut Vec<EntityUID>, uids: Vec<EntityUID>) -> Result<(), AllocError>
+    requires { AreRising list.old.items }
+    ensures rising { AreRising list.new.items }
+    ensures added { OnOk result ((q : Uid) → list_any (same_uid q) list.new.items
+        ≡ (list_any (same_uid q) uids.items || list_any (same_uid q) list.old.items)) }
+    ensures err { OnErr result (list.new.items ≡ list.old.items) }
+{
+    list.reserve(uids.len())?;
+    for uid in uids {
+        insert_in_turn(list, uid);
+    }
+    Ok(())
+}
+
 impl EntityUIDs {
     /// A copy, whose uids share their parts; refused for memory alone.
     pub fn clone(&self, _alloc: Global) -> Result<EntityUIDs, AllocError>
@@ -183,9 +225,20 @@ impl EntityUIDs {
         Clone::clone(self)
     }
 
-    /// Adds the uids of a list, in any order and any number of times. All are sorted once. Refused for memory
-    /// alone; nothing is then added.
+    /// Adds the uids of a list, in any order and any number of times. A few are put in their places, and more sorted
+    /// once with the others. Refused for memory alone; nothing is then added.
     pub fn extend(&mut self, uids: Vec<EntityUID>) -> Result<(), AllocError>
+        ensures added { OnOk result (self.new ≡ set.union self.old (set.from_list uids.items)) }
+        ensures err { OnErr result (self.new ≡ self.old) }
+    {
+        if uids.len() <= SHORT {
+            return insert_each_in_turn(&mut self.uids, uids);
+        }
+        self.extend_sorted(uids)
+    }
+
+    // The same by a sort of all.
+    fn extend_sorted(&mut self, uids: Vec<EntityUID>) -> Result<(), AllocError>
         ensures added { OnOk result (self.new ≡ set.union self.old (set.from_list uids.items)) }
         ensures err { OnErr result (self.new ≡ self.old) }
     {
@@ -205,8 +258,8 @@ impl EntityUIDs {
         self.extend(uids)
     }
 
-    // The uids, each below the next.
-    fn into_vec(self) -> Vec<EntityUID>
+    /// The uids, each below the next.
+    pub(crate) fn into_vec(self) -> Vec<EntityUID>
         ensures rising { AreRising result.items }
         ensures listed { set.from_list result.items ≡ self }
     {
@@ -237,6 +290,15 @@ impl EntityUIDs {
     {
         let mut left = self.take();
         left.retain(|uid| !is_in(gone, uid));
+        *self = EntityUIDs::of_rising(self.alloc, left);
+    }
+
+    /// Takes the uids of another list away.
+    pub(crate) fn subtract(&mut self, gone: &EntityUIDs)
+        ensures { self.new ≡ set.difference self.old gone.now }
+    {
+        let mut left = self.take();
+        left.retain(|uid| !gone.contains(uid));
         *self = EntityUIDs::of_rising(self.alloc, left);
     }
 

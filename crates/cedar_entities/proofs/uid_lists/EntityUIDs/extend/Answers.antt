@@ -1,17 +1,14 @@
--- The uids of both lists, sorted, are those of both sets.
-use Rattle.std.proofs.Common.{◌≡◌, ◌++◌, ap, ◌∙◌}
+-- A few that are put in their places stand beside those that were there (Inserted).
+use Rattle.std.proofs.Common.{ap, ◌∙◌}
 use Rattle.std.specs.FinSet as set
-use Rattle.std.proofs.lemmas.List.Elements.{same_from_all_zip}
-use Rattle.cedar_language.specs.Order.{uid_cmp}
-use Rattle.cedar_entities.proofs.UidSets.{joined}
+use Rattle.std.proofs.lemmas.Result.{on_ok_weaker}
+use Rattle.cedar_entities.proofs.Inserted.{joined_set}
 use Rattle.cedar_entities.proofs.uid_lists.EntityUIDs.extend.Goals as goal
 
-pub returns-clause-added : goal.returns-clause-added
-returns-clause-added c =
+pub returns-then-len-le-SHORT-clause-added : goal.returns-then-len-le-SHORT-clause-added
+returns-then-len-le-SHORT-clause-added c =
+    let old = c.self.inside.uids.items in
     let us = c.args.uids.items in
-    let appended = c.in_ok-extend_with_clones.ensures.items in
-    let same : appended.0 ≡ c.as_slice.result.now = same_from_all_zip (λ x y. y ≡ x) c.as_slice.result.now appended.0 appended.2 (λ x y e. e) in
-    c.drop.view_is ∙ c.in_ok-self-inside.ensures
-    ∙ ap (λ vs. set.from_list {R = uid_cmp} vs) (appended.1 ∙ ap (λ vs. us ++ vs) same)
-    ∙ joined us c.as_slice.result.now
-    ∙ ap (λ s. set.union s (set.from_list us)) c.as_slice.ensures.listed
+    on_ok_weaker c.insert_each_in_turn.result
+    (λ h. joined_set old c.insert_each_in_turn.new.list.items us h ∙ ap (λ s. set.union s (set.from_list us)) c.self.view_is)
+    c.insert_each_in_turn.ensures.added
