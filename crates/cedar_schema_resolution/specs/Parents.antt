@@ -4,7 +4,7 @@ use Rattle.std.specs.List.{find, cons_option}
 use Rattle.std.specs.BTreeMap.{get}
 use Rattle.cedar_language.specs.Uid.{Name}
 use Rattle.cedar_language.specs.Order.{same_name, name_cmp}
-use Rattle.cedar_schema_grammar.specs.Declared.{EntityType, Declared, first_of, places, entity_name, entity_at}
+use Rattle.cedar_schema_grammar.specs.Declared.{EntityType, Declared, first_of, places, entity_name}
 use Rattle.cedar_schema_resolution.specs.declared.parents.EntityNames.{EntityNames}
 
 abbrev pub name_at : EntityNames → Name → Option Name

@@ -1,7 +1,6 @@
 -- The parents that are written are those of the body.
-use Rattle.std.proofs.Common.{◌≡◌, IfOk, Vec, Global, sym, ap, ◌∙◌, subst}
+use Rattle.std.proofs.Common.{◌≡◌, sym, ap, ◌∙◌}
 use Rattle.std.proofs.lemmas.Result.{IfOk-weaker}
-use Rattle.cedar_language.specs.Uid.{Name}
 use Rattle.cedar_schema_grammar.specs.Declared.{Declared}
 use Rattle.cedar_schema_grammar.specs.Resolving.{body_parents}
 use Rattle.cedar_schema_syntax.specs.View.{paths_view}

@@ -1,5 +1,5 @@
 -- One more is found, or isn't declared.
-use Rattle.std.proofs.Common.{◌≡◌, ◌<◌, ◌≤◌, length, get_or, take, arith, subst}
+use Rattle.std.proofs.Common.{◌≡◌, ◌<◌, ◌≤◌, length, get_or, arith, subst}
 use Rattle.std.proofs.lemmas.List.{take_all}
 use Rattle.cedar_schema_syntax.specs.View.{paths_view}
 use Rattle.cedar_schema_resolution.specs.Parents.{all_named}
