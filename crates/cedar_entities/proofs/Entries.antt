@@ -7,6 +7,7 @@ use Rattle.std.specs.declared.alloc.Global.{Global}
 use Rattle.std.specs.declared.rc.RcStr.{RcStr}
 use Rattle.std.specs.Rc.{rc_str_bytes}
 use Rattle.std.specs.Ordering.{is_lt, eq_by_cmp}
+use Rattle.std.specs.Cmp.Lexicographic.{texts_ties}
 use Rattle.std.specs.FinMap as finite
 use Rattle.std.specs.FinMap.Entries.{below_all, is_sorted, same_entries}
 use Rattle.std.specs.List.{AllByRecursion}
@@ -17,7 +18,7 @@ use Rattle.std.specs.Option.{option_copied}
 use Rattle.std.proofs.Common.{Bor}
 use Rattle.cedar_restricted.specs.declared.partial_values.PartialValue.{PartialValue}
 use Rattle.cedar_language.specs.Uid.{Text}
-use Rattle.cedar_language.specs.Order.{text_cmp}
+use Rattle.cedar_language.specs.Order.{text_cmp, same_text}
 use Rattle.cedar_language.specs.OrderLaws.{text_cmp_total, text_cmp_same}
 use Rattle.cedar_restricted.specs.PartialValues.{partial_of}
 use Rattle.cedar_entities.specs.Attributes.{Attribute, Entries, seen_entry, seen_entries, attributes_of}
@@ -81,6 +82,21 @@ copied (Some v) = refl
 
 pub shown_at : (m n : Map) (q : Text) (r : Option (Bor PartialValue)) → m ≡ n → option_copied r ≡ lookup (is_at (λ k. text_cmp q (rc_str_bytes k))) m.entries → option_map (λ v. partial_of v.now) r ≡ finite.get (attributes_of n.entries) q
 shown_at m n q r e h = copied r ∙ ap (option_map partial_of) h ∙ get-seen q m.entries ∙ ap (λ (x : Map). finite.get (attributes_of x.entries) q) e
+
+pub shown_found : (es : Entries) (q : Text) (r : Option (Bor PartialValue)) → option_map partial_of (option_copied r) ≡ finite.find text_cmp q (seen_entries es)
+    → option_map (λ v. partial_of v.now) r ≡ finite.get (attributes_of es) q
+shown_found es q r h = copied r ∙ h ∙ sym (finite.get-from_entries text_cmp_total (seen_entries es) q)
+
+-- the first entry is what is found, where its name is the one
+pub found_here : (q k : Text) (e : RcStr Global × PartialValue) (es : Entries) → k ≡ rc_str_bytes e.0 → same_text q k ≡ true
+    → finite.find text_cmp q (seen_entries (e ∷ es)) ≡ Some (partial_of e.1)
+found_here q k e es at is =
+    ap (λ b. cond b (Some (partial_of e.1)) (finite.find text_cmp q (seen_entries es))) (sym (texts_ties q (rc_str_bytes e.0)) ∙ ap (same_text q) (sym at) ∙ is)
+
+pub found_past : (q k : Text) (e : RcStr Global × PartialValue) (es : Entries) → k ≡ rc_str_bytes e.0 → same_text q k ≡ false
+    → finite.find text_cmp q (seen_entries (e ∷ es)) ≡ finite.find text_cmp q (seen_entries es)
+found_past q k e es at is =
+    ap (λ b. cond b (Some (partial_of e.1)) (finite.find text_cmp q (seen_entries es))) (sym (texts_ties q (rc_str_bytes e.0)) ∙ ap (same_text q) (sym at) ∙ is)
 
 pub shown_len : (m n : Map) (r : ℕ) → m ≡ n → r ≡ length m.entries → IsStrictlySortedBy name_cmp (keys_of m.entries) → r ≡ finite.len (attributes_of n.entries)
 shown_len m n r e h s = h ∙ len-seen m.entries s ∙ ap (λ (x : Map). finite.len (attributes_of x.entries)) e

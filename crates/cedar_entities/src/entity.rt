@@ -11,7 +11,7 @@ ghost use Rattle.cedar_entities.specs.Attributes.{attributes_of, seen_entries};
 ghost use Rattle.cedar_entities.specs.Lists.{AreRising, AreInTurn};
 ghost use Rattle.cedar_entities.specs.Data.{EntityData, bare_entity, ancestors_of, IsListOf, IsSameEntity, without};
 
-use crate::attributes::{Attributes, same_attributes};
+use crate::attributes::{Attributes, attribute_at, same_attributes};
 use crate::iteration::Uids;
 use crate::uid_lists::EntityUIDs;
 use cedar_literals::uids::EntityUID;
@@ -125,7 +125,7 @@ impl Entity {
     pub fn get(&self, attr: &str) -> Option<&PartialValue>
         ensures { option_map (λ v. partial_of v.now) result ≡ finite.get self.now.attributes attr.now }
     {
-        self.attrs.get(attr)
+        attribute_at(&self.attrs, attr)
     }
 
     /// The value of this tag, or the residual that is left of it where something in it is unknown; `None` where
@@ -133,7 +133,7 @@ impl Entity {
     pub fn get_tag(&self, tag: &str) -> Option<&PartialValue>
         ensures { option_map (λ v. partial_of v.now) result ≡ finite.get self.now.tags tag.now }
     {
-        self.tags.get(tag)
+        attribute_at(&self.tags, tag)
     }
 
     /// How many attributes it has.
