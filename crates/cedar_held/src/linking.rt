@@ -16,7 +16,7 @@ use cedar_policies::policies::Policy;
 use cedar_policies::templates::Template;
 use cedar_policy_parts::PolicyID;
 use cedar_policy_parts::bindings::SlotEnv;
-use cedar_policy_set::bounds::Bound;
+use cedar_policy_set::bounds::BoundKind;
 use cedar_policy_set::errors::PolicySetError;
 use cedar_policy_set::sets::PolicySet;
 use cedar_replies::Refusal;
@@ -57,10 +57,12 @@ fn template_at(set: &PolicySet, id: &RcStr) -> Result<Rc<Template>, Refusal>
     ensures { FindsTemplate set.now (rc_str_bytes id.now) result }
 {
     let id = PolicyID::from_smolstr(id.clone()?);
-    match set.bound(&id) {
-        None => Err(Refusal::NoSuchTemplate),
-        Some(Bound::Policy(_)) => Err(Refusal::NotTemplate),
-        Some(Bound::Template(template)) => Ok(template.clone()?),
+    let Some(bound) = set.bound(&id) else {
+        return Err(Refusal::NoSuchTemplate);
+    };
+    match bound.kind() {
+        BoundKind::Policy(_) => Err(Refusal::NotTemplate),
+        BoundKind::Template(template) => Ok(template.clone()?),
     }
 }
 

@@ -4,7 +4,7 @@ use Rattle.std.specs.List.{AllZip}
 use Rattle.std.specs.Map.{keys_of, values_of}
 use Rattle.cedar_language.specs.Uid.{Text}
 use Rattle.cedar_policy_set.specs.Entries.{IsWhole}
-use Rattle.cedar_policy_set.specs.declared.bounds.Bound.{Bound}
+use Rattle.cedar_policy_set.specs.declared.bounds.BoundKind.{BoundKind}
 use Rattle.cedar_policy_set.specs.Bounds.{bound_id, entries_of, IsNamed, ListTheirSlots, IsCopy, IsSound}
 
 pub zip_weaker : {A B : Type 0} {R S : A → B → Type 0} → ((a : A) (b : B) → R a b → S a b) → (xs : List A) (ys : List B) → AllZip R xs ys → AllZip S xs ys
@@ -23,25 +23,25 @@ same_keys is_clone [] (f ∷ fs) h = absurd h
 same_keys is_clone (e ∷ es) [] h = absurd h
 same_keys is_clone (e ∷ es) (f ∷ fs) h = λ i. h.0.0 i ∷ same_keys is_clone es fs h.1 i
 
-pub same_entries : (es fs : List (Text × Bound)) → AreCopies IsCopy es fs → entries_of fs ≡ entries_of es
+pub same_entries : (es fs : List (Text × BoundKind)) → AreCopies IsCopy es fs → entries_of fs ≡ entries_of es
 same_entries [] [] h = refl
 same_entries [] (f ∷ fs) h = absurd h
 same_entries (e ∷ es) [] h = absurd h
 same_entries (e ∷ es) (f ∷ fs) h = λ i. (h.0.0 i, h.0.1.entry i) ∷ same_entries es fs h.1 i
 
-same_ids : (es fs : List (Text × Bound)) → AreCopies IsCopy es fs → map (λ f. bound_id f.1) fs ≡ map (λ e. bound_id e.1) es
+same_ids : (es fs : List (Text × BoundKind)) → AreCopies IsCopy es fs → map (λ f. bound_id f.1) fs ≡ map (λ e. bound_id e.1) es
 same_ids [] [] h = refl
 same_ids [] (f ∷ fs) h = absurd h
 same_ids (e ∷ es) [] h = absurd h
 same_ids (e ∷ es) (f ∷ fs) h = λ i. h.0.1.id i ∷ same_ids es fs h.1 i
 
-copies_listed : (es fs : List (Text × Bound)) → AreCopies IsCopy es fs → ListTheirSlots (values_of es) → ListTheirSlots (values_of fs)
+copies_listed : (es fs : List (Text × BoundKind)) → AreCopies IsCopy es fs → ListTheirSlots (values_of es) → ListTheirSlots (values_of fs)
 copies_listed [] [] h listed = tt
 copies_listed [] (f ∷ fs) h listed = absurd h
 copies_listed (e ∷ es) [] h listed = absurd h
 copies_listed (e ∷ es) (f ∷ fs) h listed = (h.0.1.listed listed.0, copies_listed es fs h.1 listed.1)
 
-pub copies_sound : (es fs : List (Text × Bound)) → AreCopies IsCopy es fs → IsSound es → IsSound fs
+pub copies_sound : (es fs : List (Text × BoundKind)) → AreCopies IsCopy es fs → IsSound es → IsSound fs
 copies_sound es fs h sound = record {
   named = same_ids es fs h ∙ sound.named ∙ sym (same_keys IsCopy es fs h);
   listed = copies_listed es fs h sound.listed;

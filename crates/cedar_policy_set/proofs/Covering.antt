@@ -1,5 +1,6 @@
 -- What an index of scopes covers of a set stays covered when ids are bound behind it, and more is covered in turn.
-use Rattle.std.proofs.Common.{◌≡◌, ◌≢◌, ◌⊎◌, inl, inr, ℕ, suc, zero, ◌+◌, ◌<◌, ◌≤◌, true, false, List, [], ◌∷◌, ◌++◌, length, refl, sym, ap, subst, ◌∙◌, Option, None, Some, arith}
+use Rattle.std.proofs.Common.{◌≡◌, ◌≢◌, ◌⊎◌, inl, inr, ℕ, suc, zero, ◌+◌, ◌<◌, ◌≤◌, true, false, List, [], ◌∷◌, ◌++◌, length, refl, sym, ap, subst}
+use Rattle.std.proofs.Common.{◌∙◌, Option, None, Some, arith}
 use Rattle.std.specs.List.{slice_get}
 use Rattle.std.specs.Option.{ForNone, option_map}
 use Rattle.std.proofs.lemmas.Option.{slice_get-map, slice_get_within}
@@ -16,7 +17,7 @@ use Rattle.cedar_policy_set.specs.ScopeFinding.{IsFound, KeepsFound, covered}
 use Rattle.cedar_policy_set.specs.declared.scope_index.index.ScopeIndex.{ScopeIndex}
 use Rattle.cedar_policy_set.specs.Entries.{Entry, static_policy, template, link, Entries}
 use Rattle.cedar_policy_set.specs.Bounds.{entry_by, policy_entry, entry_of, entries_of}
-use Rattle.cedar_policy_set.specs.declared.bounds.Bound.{Bound}
+use Rattle.cedar_policy_set.specs.declared.bounds.BoundKind.{BoundKind}
 use Rattle.cedar_policy_set.specs.Scopes.{IsEntryFound, Covers}
 
 pub covers_nothing : (es : Entries) (x : ScopeIndex) → covered x ≡ 0 → Covers es x
@@ -54,13 +55,15 @@ covers_still es x y covers kept same = record {
 }
 
 -- the next position is covered
-pub covers_next : (es : Entries) (x y : ScopeIndex) (e : Text × Entry) → Covers es x → KeepsFound x y → covered y ≡ covered x + 1 → slice_get es (covered x) ≡ Some e → IsEntryFound y (covered x) e.1 → covered x < length es → Covers es y
+pub covers_next : (es : Entries) (x y : ScopeIndex) (e : Text × Entry) → Covers es x → KeepsFound x y → covered y ≡ covered x + 1
+    → slice_get es (covered x) ≡ Some e → IsEntryFound y (covered x) e.1 → covered x < length es → Covers es y
 covers_next es x y e covers kept more here found within = record {
   within = omega arith;
   found = λ p f below at. by p f at (last p (omega arith) (eqb_tells p (covered x)));
 }
   where
-    last : (p : ℕ) → p < covered x + 1 → ((eqb p (covered x) ≡ true) × (p ≡ covered x)) ⊎ ((eqb p (covered x) ≡ false) × (p ≢ covered x)) → (p < covered x) ⊎ (p ≡ covered x)
+    last : (p : ℕ) → p < covered x + 1 → ((eqb p (covered x) ≡ true) × (p ≡ covered x)) ⊎ ((eqb p (covered x) ≡ false) × (p ≢ covered x))
+        → (p < covered x) ⊎ (p ≡ covered x)
     last p below (inl is) = inr is.1
     last p below (inr not) = let apart = not.1 in inl (omega arith)
 
@@ -72,14 +75,17 @@ covers_next es x y e covers kept more here found within = record {
         subst (λ q. IsEntryFound y q f.1) (sym is) (subst (λ g. IsEntryFound y (covered x) g) same found)
 
 -- the next position of the map is covered
-pub covers_entry : (es : List (Text × Bound)) (x y : ScopeIndex) (id : Text) (b : Bound) → Covers (entries_of es) x → KeepsFound x y → covered y ≡ covered x + 1 → slice_get es (covered x) ≡ Some (id, b) → IsEntryFound y (covered x) (entry_of b) → Covers (entries_of es) y
+pub covers_entry : (es : List (Text × BoundKind)) (x y : ScopeIndex) (id : Text) (b : BoundKind) → Covers (entries_of es) x → KeepsFound x y
+    → covered y ≡ covered x + 1 → slice_get es (covered x) ≡ Some (id, b) → IsEntryFound y (covered x) (entry_of b) → Covers (entries_of es) y
 covers_entry es x y id b covers kept more at found =
-    let here : slice_get (entries_of es) (covered x) ≡ Some (id, entry_of b) = slice_get-map (λ e. (e.0, entry_of e.1)) es (covered x) ∙ ap (option_map (λ e. (e.0, entry_of e.1))) at in
+    let here : slice_get (entries_of es) (covered x) ≡ Some (id, entry_of b) = slice_get-map (λ e. (e.0, entry_of e.1)) es (covered x)
+    ∙ ap (option_map (λ e. (e.0, entry_of e.1))) at in
     covers_next (entries_of es) x y (id, entry_of b) covers kept more here found (slice_get_within (entries_of es) (covered x) (id, entry_of b) here)
 
 -- ---- a policy as an entry
 
-entered : (x : ScopeIndex) (n : ℕ) (o : Option Text) (t : Text) (s : grammar.Policy) (b : Bindings) → ForNone o (b ≡ unbound) → IsFound x n b s → IsEntryFound x n (entry_by o t s b)
+entered : (x : ScopeIndex) (n : ℕ) (o : Option Text) (t : Text) (s : grammar.Policy) (b : Bindings) → ForNone o (b ≡ unbound) → IsFound x n b s
+    → IsEntryFound x n (entry_by o t s b)
 entered x n None t s b own found = subst (λ a. IsFound x n a s) (own refl) found
 entered x n (Some id) t s b own found = found
 

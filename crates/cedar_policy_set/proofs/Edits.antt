@@ -9,7 +9,7 @@ use Rattle.cedar_grammar.specs.Policy.{Policy}
 use Rattle.cedar_grammar.specs.Syntax.{numbered}
 use Rattle.cedar_policy_set.specs.declared.scope_index.index.ScopeIndex.{ScopeIndex}
 use Rattle.cedar_policy_set.specs.Entries.{template, Entries, bound_at, without, HasItsTemplate, IsFull, IsWhole, has_links}
-use Rattle.cedar_policy_set.specs.declared.bounds.Bound.{Bound}
+use Rattle.cedar_policy_set.specs.declared.bounds.BoundKind.{BoundKind}
 use Rattle.cedar_policy_set.specs.Bounds.{entry_of, bound_id, entries_of, IsNamed, ListsSlots, ListTheirSlots, IsSound}
 use Rattle.cedar_policy_set.specs.Numbers.{Counts, AreBound}
 use Rattle.cedar_policy_set.specs.declared.numbers.Numbers.{Numbers}
@@ -19,10 +19,10 @@ use Rattle.cedar_policy_set.proofs.Counting.{counts_more, counts_without}
 use Rattle.cedar_policy_set.proofs.Views.{named_push, named_append, named_without, listed_push, listed_append, listed_without, found_entry, keys_of_entries, entries_append, entries_without}
 use Rattle.cedar_policy_set.proofs.Wholes.{empty_is_whole, whole_push, whole_without}
 
-pub sound_empty : (es : List (Text × Bound)) → es ≡ [] → IsSound es
+pub sound_empty : (es : List (Text × BoundKind)) → es ≡ [] → IsSound es
 sound_empty es e = subst IsSound (sym e) (record { named = refl; listed = tt; whole = empty_is_whole })
 
-unmapped : (o : Option Bound) → option_map entry_of o ≡ None → o ≡ None
+unmapped : (o : Option BoundKind) → option_map entry_of o ≡ None → o ≡ None
 unmapped None h = refl
 unmapped (Some b) h = absurd (true_is_false (ap is_some h))
   where
@@ -30,19 +30,19 @@ unmapped (Some b) h = absurd (true_is_false (ap is_some h))
     true_is_false e = cc
 
 -- an id that isn't bound isn't in the map
-pub absent : (es : List (Text × Bound)) (seen : Entries) → entries_of es ≡ seen → (id : Text) → bound_at seen id ≡ None → lookup (same_text id) es ≡ None
+pub absent : (es : List (Text × BoundKind)) (seen : Entries) → entries_of es ≡ seen → (id : Text) → bound_at seen id ≡ None → lookup (same_text id) es ≡ None
 absent es seen view id free = unmapped (lookup (same_text id) es) (sym (found_entry es id) ∙ ap (λ xs. bound_at xs id) view ∙ free)
 
-appended_is : (es more : List (Text × Bound)) (seen : Entries) → entries_of es ≡ seen → entries_of (es ++ more) ≡ seen ++ entries_of more
+appended_is : (es more : List (Text × BoundKind)) (seen : Entries) → entries_of es ≡ seen → entries_of (es ++ more) ≡ seen ++ entries_of more
 appended_is es more seen view = entries_append es more ∙ ap (λ xs. xs ++ entries_of more) view
 
 -- and ids that come last in a whole set stand apart in the map
-pub apart : (es more : List (Text × Bound)) (seen : Entries) → entries_of es ≡ seen → IsWhole (seen ++ entries_of more) → IsDistinct same_text (keys_of (es ++ more))
+pub apart : (es more : List (Text × BoundKind)) (seen : Entries) → entries_of es ≡ seen → IsWhole (seen ++ entries_of more) → IsDistinct same_text (keys_of (es ++ more))
 apart es more seen view whole = subst (IsDistinct same_text) (sym (ap keys_of (appended_is es more seen view)) ∙ keys_of_entries (es ++ more)) whole.distinct
 
-module _ (es new : List (Text × Bound)) (seen : Entries) (view : entries_of es ≡ seen) (sound : IsSound es) where
+module _ (es new : List (Text × BoundKind)) (seen : Entries) (view : entries_of es ≡ seen) (sound : IsSound es) where
   -- a new id is bound
-  module _ (id : Text) (b : Bound) (free : bound_at seen id ≡ None) (is : new ≡ es ++ (id, b) ∷ []) where
+  module _ (id : Text) (b : BoundKind) (free : bound_at seen id ≡ None) (is : new ≡ es ++ (id, b) ∷ []) where
     pub bind_is : entries_of new ≡ seen ++ (id, entry_of b) ∷ []
     bind_is = ap entries_of is ∙ entries_append es ((id, b) ∷ []) ∙ ap (λ xs. xs ++ (id, entry_of b) ∷ []) view
 
@@ -61,7 +61,7 @@ module _ (es new : List (Text × Bound)) (seen : Entries) (view : entries_of es 
         }
 
   -- ids that are new are bound
-  module _ (more : List (Text × Bound)) (whole : IsWhole (seen ++ entries_of more)) (is : new ≡ es ++ more) where
+  module _ (more : List (Text × BoundKind)) (whole : IsWhole (seen ++ entries_of more)) (is : new ≡ es ++ more) where
     pub append_is : entries_of new ≡ seen ++ entries_of more
     append_is = ap entries_of is ∙ appended_is es more seen view
 

@@ -13,7 +13,7 @@ use Rattle.cedar_policy_set.specs.ClosedPlaces.{closed_up}
 use Rattle.cedar_policy_set.specs.declared.scope_index.index.ScopeIndex.{ScopeIndex}
 use Rattle.cedar_policy_set.specs.Entries.{Entry, static_policy, template, link, Entries, without}
 use Rattle.cedar_policy_set.specs.Bounds.{entry_of, entries_of}
-use Rattle.cedar_policy_set.specs.declared.bounds.Bound.{Bound}
+use Rattle.cedar_policy_set.specs.declared.bounds.BoundKind.{BoundKind}
 use Rattle.cedar_policy_set.specs.Scopes.{IsEntryFound, Covers}
 use Rattle.cedar_policy_set.proofs.Placed.{nothing_taken}
 use Rattle.cedar_policy_set.proofs.Telling.{stands_at}
@@ -107,11 +107,11 @@ module _ (x y : ScopeIndex) (out : ℕ) (kept : KeepsClosedUp x y out) where
 
 -- ---- of a map
 
-as_long : (es : List (Text × Bound)) → length (keys_of es) ≡ length (entries_of es)
+as_long : (es : List (Text × BoundKind)) → length (keys_of es) ≡ length (entries_of es)
 as_long [] = refl
 as_long (e ∷ es) = ap suc (as_long es)
 
-module _ (es : List (Text × Bound)) (id : Text) (x : ScopeIndex) (covers : Covers (entries_of es) x) where
+module _ (es : List (Text × BoundKind)) (id : Text) (x : ScopeIndex) (covers : Covers (entries_of es) x) where
   at_is : position_or_len (same_text id) (keys_of es) ≡ out_at (same_text id) (entries_of es)
   at_is = ap (position_or_len (same_text id)) (sym (keys_of_entries es))
 

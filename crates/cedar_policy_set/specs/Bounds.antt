@@ -10,8 +10,8 @@ use Rattle.cedar_policies.specs.Policies.{policy_template, policy_syntax, link_o
 use Rattle.cedar_policies.specs.declared.templates.Template.{Template as ATemplate}
 use Rattle.cedar_policies.specs.declared.policies.Policy.{Policy as APolicy}
 use Rattle.cedar_policy_set.specs.Entries.{Entry, static_policy, template, link, Entries, IsWhole}
-use Rattle.cedar_policy_set.specs.declared.bounds.Bound.{Bound}
-use Rattle.cedar_policy_set.specs.declared.bounds.Bound.TheVariants.{Policy, Template}
+use Rattle.cedar_policy_set.specs.declared.bounds.BoundKind.{BoundKind}
+use Rattle.cedar_policy_set.specs.declared.bounds.BoundKind.TheVariants.{Policy, Template}
 
 abbrev pub entry_by : Option Text → Text → grammar.Policy → Bindings → Entry
 entry_by None t s b = static_policy s
@@ -25,15 +25,15 @@ link_entry p = link (template_id (policy_template p)) (policy_syntax p) (binding
 abbrev pub policy_entry : APolicy → Entry
 policy_entry p = entry_by (link_of p) (template_id (policy_template p)) (policy_syntax p) (bindings_of p)
 
-abbrev pub entry_of : Bound → Entry
-entry_of (Policy p) = policy_entry p.value
+abbrev pub entry_of : BoundKind → Entry
+entry_of (Policy p) = policy_entry p
 entry_of (Template t) = template (syntax_of t.value)
 
-abbrev pub bound_id : Bound → Text
-bound_id (Policy p) = policy_id p.value
+abbrev pub bound_id : BoundKind → Text
+bound_id (Policy p) = policy_id p
 bound_id (Template t) = template_id t.value
 
-abbrev pub entries_of : List (Text × Bound) → Entries
+abbrev pub entries_of : List (Text × BoundKind) → Entries
 entries_of es = map (λ e. (e.0, entry_of e.1)) es
 
 abbrev pub template_seen : ATemplate → Text × grammar.Policy
@@ -43,29 +43,29 @@ abbrev pub policy_seen : APolicy → Text × Entry
 policy_seen p = (policy_id p, policy_entry p)
 
 -- what is held, each under its own id
-abbrev pub seen : List Bound → Entries
+abbrev pub seen : List BoundKind → Entries
 seen bs = map (λ b. (bound_id b, entry_of b)) bs
 
 -- each stands under its own id
-abbrev pub IsNamed : List (Text × Bound) → Type 0
+abbrev pub IsNamed : List (Text × BoundKind) → Type 0
 IsNamed es = map (λ e. bound_id e.1) es ≡ keys_of es
 
 -- a template of a set lists its slots, also where it was made of a clause
-abbrev pub ListsSlots : Bound → Type 0
+abbrev pub ListsSlots : BoundKind → Type 0
 ListsSlots (Policy p) = ⊤
 ListsSlots (Template t) = listed_slots t.value ≡ grammar.slots (syntax_of t.value)
 
-abbrev pub ListTheirSlots : List Bound → Type 0
+abbrev pub ListTheirSlots : List BoundKind → Type 0
 ListTheirSlots bs = AllByRecursion ListsSlots bs
 
 -- a copy: under the same id, of the same entry, and of a template that lists its slots where that one does
-pub record IsCopy (b c : Bound) : Type 0 where
+pub record IsCopy (b c : BoundKind) : Type 0 where
   pub id : bound_id c ≡ bound_id b
   pub entry : entry_of c ≡ entry_of b
   pub listed : ListsSlots b → ListsSlots c
 
 -- each stands under its own id, each template lists its slots, and the set is whole
-pub record IsSound (es : List (Text × Bound)) : Type 0 where
+pub record IsSound (es : List (Text × BoundKind)) : Type 0 where
   pub named : IsNamed es
   pub listed : ListTheirSlots (values_of es)
   pub whole : IsWhole (entries_of es)

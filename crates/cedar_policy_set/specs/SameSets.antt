@@ -12,7 +12,7 @@ use Rattle.cedar_language.specs.Order.{same_text}
 use Rattle.cedar_policy_set.specs.Entries.{Entry, Entries, bound_at}
 use Rattle.cedar_policy_set.specs.EntryNodes.{same_entry, entries_decide}
 use Rattle.cedar_policy_set.specs.Bounds.{bound_id, entry_of}
-use Rattle.cedar_policy_set.specs.declared.bounds.Bound.{Bound}
+use Rattle.cedar_policy_set.specs.declared.bounds.BoundKind.{BoundKind}
 
 -- each id is bound in both to one thing, or in neither
 abbrev pub BindAlike : Entries → Entries → Type 0
@@ -87,7 +87,7 @@ same_sets_equiv = record {
 
 -- ---- of what one id is bound to
 
-abbrev pub same_bound : Bound → Bound → Bool
+abbrev pub same_bound : BoundKind → BoundKind → Bool
 same_bound a b = same_text (bound_id a) (bound_id b) && same_entry (entry_of a) (entry_of b)
 
 pub same_bound_equiv : IsEquivalence same_bound

@@ -7,7 +7,7 @@ use Rattle.cedar_policy_set.specs.declared.scope_index.index.ScopeIndex.{ScopeIn
 use Rattle.cedar_policy_set.specs.Entries.{Entry, static_policy, template, link, Entries, is_policy}
 use Rattle.cedar_policy_set.specs.Bounds.{entries_of, IsSound}
 use Rattle.cedar_policy_set.specs.Numbers.{AreBound}
-use Rattle.cedar_policy_set.specs.declared.bounds.Bound.{Bound}
+use Rattle.cedar_policy_set.specs.declared.bounds.BoundKind.{BoundKind}
 use Rattle.cedar_policy_set.specs.declared.numbers.Numbers.{Numbers}
 
 -- a policy is found at a position; a template isn't looked for
@@ -27,7 +27,7 @@ policy_stood None = None
 policy_stood (Some e) = if is_policy e.1 then Some e else None
 
 -- the entries are a policy set's, the numbers that count as bound are bound there, and the index covers a beginning
-pub record IsKept (es : List (Text × Bound)) (n : Numbers) (x : ScopeIndex) : Type 0 where
+pub record IsKept (es : List (Text × BoundKind)) (n : Numbers) (x : ScopeIndex) : Type 0 where
   pub sound : IsSound es
   pub counts : AreBound (entries_of es) n
   pub covers : Covers (entries_of es) x

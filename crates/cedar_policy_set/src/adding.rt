@@ -37,7 +37,7 @@ impl PolicySet {
             return Err(PolicySetError::Occupied { id });
         }
         let template = Rc::new(alloc, template.listed())?;
-        self.bind(id, Bound::Template(template))?;
+        self.bind(id, Bound::from_template(alloc, template)?)?;
         Ok(())
     }
 
@@ -159,7 +159,7 @@ fn with_its_template(alloc: Global, link: Policy) -> Result<PolicyMap<Bound>, Al
 {
     let mut more = PolicyMap::new(alloc);
     let template = listed(alloc, link.template_arc())?;
-    Bound::Template(template).insert_into(&mut more)?;
+    Bound::from_template(alloc, template)?.insert_into(&mut more)?;
     Bound::from_policy(alloc, link)?.insert_into(&mut more)?;
     Ok(more)
 }

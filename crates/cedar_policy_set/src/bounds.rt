@@ -14,17 +14,36 @@ use cedar_policies::policies::Policy;
 use cedar_policies::templates::Template;
 use cedar_policy_parts::PolicyID;
 use std::alloc::{AllocError, Global};
+use std::marker::Model;
 use std::rc::Rc;
 
-/// What an id is bound to: a policy, which is a static one or a link, or a template. Contracts see the id
-/// through `bound_id` and the rest, without places, through `entry_of`. A policy stands in a box, so that what
-/// a removal moves up in a set is small.
+/// What an id is bound to: a policy, which is a static one or a link, or a template. It is one handle, so that what a
+/// removal moves up in a set is small. Contracts see its kind: the id through `bound_id`, and the rest, without places,
+/// through `entry_of`.
 #[derive(Debug, Drop)]
-pub enum Bound {
+pub struct Bound {
+    kind: Box<BoundKind>,
+}
+
+/// What an id is bound to, by its kind.
+#[derive(Debug, Drop)]
+pub enum BoundKind {
     /// A static policy or a link.
-    Policy(Box<Policy>),
+    Policy(Policy),
     /// A template, shared with its links.
     Template(Rc<Template>),
+}
+
+impl Model for Bound {
+    ghost use Rattle.std.specs.Coded.{codes};
+    ghost use Rattle.cedar_policy_set.specs.contracts.bounds.BoundKind.{the_row};
+    ghost use Rattle.cedar_policy_set.specs.declared.bounds.BoundKind.{BoundKind};
+
+    ghost Value = { BoundKind };
+
+    ghost coded = { Prim.hlevel (codes, the_row.coded) };
+
+    ghost view = { λ b. b.kind.value };
 }
 
 /// Both stand under one id and are the same; places don't count.
@@ -53,9 +72,21 @@ impl Clone for Bound {
     ghost is_clone = { IsCopy };
 
     fn clone(&self) -> Result<Bound, AllocError> {
+        Ok(Bound {
+            kind: self.kind.clone()?,
+        })
+    }
+}
+
+impl Clone for BoundKind {
+    ghost use Rattle.cedar_policy_set.specs.Bounds.{IsCopy};
+
+    ghost is_clone = { IsCopy };
+
+    fn clone(&self) -> Result<BoundKind, AllocError> {
         match self {
-            Bound::Policy(policy) => Ok(Bound::Policy(policy.clone()?)),
-            Bound::Template(template) => Ok(Bound::Template(template.clone()?)),
+            BoundKind::Policy(policy) => Ok(BoundKind::Policy(Clone::clone(policy)?)),
+            BoundKind::Template(template) => Ok(BoundKind::Template(template.clone()?)),
         }
     }
 }
@@ -69,7 +100,32 @@ impl Bound {
         ensures entry { IfOk result (λ bound. entry_of bound ≡ policy_entry policy) }
         ensures listed { IfOk result ListsSlots }
     {
-        Ok(Bound::Policy(Box::new(alloc, policy)?))
+        Ok(Bound {
+            kind: Box::new(alloc, BoundKind::Policy(policy))?,
+        })
+    }
+
+    /// A template, to be bound. Refused for memory alone.
+    pub fn from_template(alloc: Global, template: Rc<Template>) -> Result<Bound, AllocError>
+        ensures { IfOk result (λ bound. bound ≡ BoundKind.Template template) }
+    {
+        Ok(Bound {
+            kind: Box::new(alloc, BoundKind::Template(template))?,
+        })
+    }
+
+    /// What it is.
+    pub fn kind(&self) -> &BoundKind
+        ensures { result.now ≡ self.now }
+    {
+        &self.kind
+    }
+
+    /// What it is, given up.
+    pub fn into_kind(self) -> BoundKind
+        ensures { result ≡ self }
+    {
+        Box::into_inner(self.kind)
     }
 
     /// A copy that shares its parts; refused for memory alone.
@@ -83,9 +139,9 @@ impl Bound {
     pub fn id(&self) -> &PolicyID
         ensures { result.now ≡ bound_id self.now }
     {
-        match self {
-            Bound::Policy(policy) => policy.id(),
-            Bound::Template(template) => template.id(),
+        match self.kind() {
+            BoundKind::Policy(policy) => policy.id(),
+            BoundKind::Template(template) => template.id(),
         }
     }
 
@@ -94,9 +150,11 @@ impl Bound {
     pub fn is_same(&self, other: &Bound) -> bool
         ensures { result ≡ same_entry (entry_of self.now) (entry_of other.now) }
     {
-        match (self, other) {
-            (Bound::Policy(mine), Bound::Policy(theirs)) => is_same_policy(mine, theirs),
-            (Bound::Template(mine), Bound::Template(theirs)) => mine.has_same_syntax(theirs),
+        match (self.kind(), other.kind()) {
+            (BoundKind::Policy(mine), BoundKind::Policy(theirs)) => is_same_policy(mine, theirs),
+            (BoundKind::Template(mine), BoundKind::Template(theirs)) => mine.has_same_syntax(
+                theirs,
+            ),
             _ => false,
         }
     }
@@ -122,9 +180,9 @@ impl Bound {
     pub fn is_link(&self) -> bool
         ensures { result ≡ is_link (entry_of self.now) }
     {
-        match self {
-            Bound::Policy(policy) => is_link(policy),
-            Bound::Template(_) => false,
+        match self.kind() {
+            BoundKind::Policy(policy) => is_link(policy),
+            BoundKind::Template(_) => false,
         }
     }
 
@@ -132,9 +190,9 @@ impl Bound {
     pub fn is_link_to(&self, id: &PolicyID) -> bool
         ensures { result ≡ is_link_to id.now (entry_of self.now) }
     {
-        match self {
-            Bound::Policy(policy) => !policy.is_static() && policy.template().id() == id,
-            Bound::Template(_) => false,
+        match self.kind() {
+            BoundKind::Policy(policy) => !policy.is_static() && policy.template().id() == id,
+            BoundKind::Template(_) => false,
         }
     }
 
@@ -142,9 +200,9 @@ impl Bound {
     pub fn is_of_template(&self, id: &PolicyID) -> bool
         ensures { result ≡ is_of_template id.now (bound_id self.now) (entry_of self.now) }
     {
-        match self {
-            Bound::Policy(policy) => policy.template().id() == id,
-            Bound::Template(_) => false,
+        match self.kind() {
+            BoundKind::Policy(policy) => policy.template().id() == id,
+            BoundKind::Template(_) => false,
         }
     }
 
@@ -152,9 +210,9 @@ impl Bound {
     pub(crate) fn is_template(&self, template: &Template) -> bool
         ensures { result ≡ same_entry (entry_of self.now) (a_template (syntax_of template.now)) }
     {
-        match self {
-            Bound::Policy(_) => false,
-            Bound::Template(mine) => mine.has_same_syntax(template),
+        match self.kind() {
+            BoundKind::Policy(_) => false,
+            BoundKind::Template(mine) => mine.has_same_syntax(template),
         }
     }
 
@@ -162,9 +220,9 @@ impl Bound {
     pub(crate) fn as_policy(&self) -> Option<&Policy>
         ensures { option_map policy_seen (option_copied result) ≡ (if is_policy (entry_of self.now) then Some (bound_id self.now, entry_of self.now) else None) }
     {
-        match self {
-            Bound::Policy(policy) => Some(policy),
-            Bound::Template(_) => None,
+        match self.kind() {
+            BoundKind::Policy(policy) => Some(policy),
+            BoundKind::Template(_) => None,
         }
     }
 
@@ -172,8 +230,8 @@ impl Bound {
     pub(crate) fn as_static(&self) -> Option<&Policy>
         ensures { option_map policy_seen (option_copied result) ≡ (if is_static (entry_of self.now) then Some (bound_id self.now, entry_of self.now) else None) }
     {
-        match self {
-            Bound::Policy(policy) if policy.is_static() => Some(policy),
+        match self.kind() {
+            BoundKind::Policy(policy) if policy.is_static() => Some(policy),
             _ => None,
         }
     }
@@ -182,8 +240,8 @@ impl Bound {
     pub(crate) fn slotted_template(&self) -> Option<&Rc<Template>>
         ensures { option_map (λ t. template_seen t.value) (option_copied result) ≡ named (bound_id self.now) (slotted_template (entry_of self.now)) }
     {
-        match self {
-            Bound::Template(template) if !template.held_slots().is_empty() => Some(template),
+        match self.kind() {
+            BoundKind::Template(template) if !template.held_slots().is_empty() => Some(template),
             _ => None,
         }
     }
@@ -193,10 +251,10 @@ impl Bound {
         ensures syntax { option_map (λ t. syntax_of t.value) (option_copied result) ≡ own_template (entry_of self.now) }
         ensures id { IfSome result (λ template. template_id template.now.value ≡ bound_id self.now) }
     {
-        match self {
-            Bound::Policy(policy) if policy.is_static() => Some(policy.template_arc()),
-            Bound::Policy(_) => None,
-            Bound::Template(template) => Some(template),
+        match self.kind() {
+            BoundKind::Policy(policy) if policy.is_static() => Some(policy.template_arc()),
+            BoundKind::Policy(_) => None,
+            BoundKind::Template(template) => Some(template),
         }
     }
 }

@@ -2,7 +2,7 @@
 ghost use Rattle.std.specs.Prelude.{◌≡◌, IfOk, IfErr, OnOk, OnErr};
 ghost use Rattle.cedar_policy_set.specs.Refused.{IsLinked, IsLinkRefusal};
 
-use crate::bounds::Bound;
+use crate::bounds::{Bound, BoundKind};
 use crate::sets::PolicySet;
 use cedar_policies::errors::LinkingError;
 use cedar_policies::linking::TemplateLinks;
@@ -26,10 +26,13 @@ impl PolicySet {
         ensures refused { IfErr result (IsLinkRefusal self.old template_id new_id values) }
         ensures err { OnErr result (self.new ≡ self.old) }
     {
-        let template = match self.bound(&template_id) {
-            Some(Bound::Template(template)) => template.clone()?,
-            _ => return Err(LinkingError::NoSuchTemplate { id: template_id }),
+        let Some(bound) = self.bound(&template_id) else {
+            return Err(LinkingError::NoSuchTemplate { id: template_id });
         };
+        let BoundKind::Template(template) = bound.kind() else {
+            return Err(LinkingError::NoSuchTemplate { id: template_id });
+        };
+        let template = template.clone()?;
         let policy = Template::link(alloc, template, new_id.clone()?, values)?;
         if self.is_bound(&new_id) {
             return Err(LinkingError::PolicyIdConflict { id: new_id });

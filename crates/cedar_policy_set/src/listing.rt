@@ -3,7 +3,7 @@ ghost use Rattle.std.specs.Prelude.{◌≡◌, true, IfOk, IfErr, OnOk};
 ghost use Rattle.cedar_policy_set.specs.Entries.{bound_at, policies_of, static_policies_of, templates_of, slotted_templates_of, links_of};
 ghost use Rattle.cedar_policy_set.specs.Refused.{IsListingRefusal, has_template_at};
 
-use crate::bounds::Bound;
+use crate::bounds::{Bound, BoundKind};
 use crate::errors::PolicySetGetLinksError;
 use crate::map_values::{IntoValues, Values};
 use crate::sets::PolicySet;
@@ -30,7 +30,7 @@ impl<'a> Iterator for Policies<'a> {
 
     fn next(&mut self) -> Option<&'a Policy> {
         while let Some(bound) = self.bound.next() {
-            if let Bound::Policy(policy) = bound {
+            if let Some(policy) = bound.as_policy() {
                 return Some(policy);
             }
         }
@@ -165,8 +165,8 @@ impl Iterator for IntoPolicies {
 
     fn next(&mut self) -> Option<Policy> {
         while let Some(bound) = self.bound.next() {
-            if let Bound::Policy(policy) = bound {
-                return Some(Box::into_inner(policy));
+            if let BoundKind::Policy(policy) = bound.into_kind() {
+                return Some(policy);
             }
         }
         None

@@ -207,10 +207,21 @@ impl<V> PolicyMap<V> {
         ensures entries { self.new ≡ remove_entry (same_text id.now) self.old }
         ensures unique { IsDistinct same_text (keys_of self.new) }
     {
+        let (_, value) = self.shift_remove_full(id)?;
+        Some(value)
+    }
+
+    /// The same, and gives the position too at which it stood.
+    pub fn shift_remove_full(&mut self, id: &PolicyID) -> Option<(usize, V)>
+        ensures position { option_map (λ r. r.0) result ≡ position (same_text id.now) (keys_of self.old) }
+        ensures value { option_map (λ r. r.1) result ≡ lookup (same_text id.now) self.old }
+        ensures entries { self.new ≡ remove_entry (same_text id.now) self.old }
+        ensures unique { IsDistinct same_text (keys_of self.new) }
+    {
         let alloc = *self.entries.allocator();
         let position = take_place(alloc, &mut self.places, &self.entries, id)?;
         let (_, value) = self.entries.remove(position);
-        Some(value)
+        Some((position, value))
     }
 
     /// Puts these last, in their order, of which no id is there. Refused for memory alone; a refused call changes

@@ -6,7 +6,6 @@ ghost use Rattle.cedar_policies.specs.Policies.{policy_id};
 ghost use Rattle.cedar_policy_set.specs.Entries.{bound_at, policy_only, own_template_at};
 ghost use Rattle.cedar_policy_set.specs.Bounds.{policy_entry};
 
-use crate::bounds::Bound;
 use crate::sets::PolicySet;
 use cedar_policies::policies::Policy;
 use cedar_policies::templates::Template;
@@ -20,8 +19,8 @@ impl PolicySet {
         ensures id { IfSome result (λ policy. policy_id policy.now ≡ id.now) }
     {
         match self.bound(id) {
-            Some(Bound::Policy(policy)) => Some(policy),
-            _ => None,
+            Some(bound) => bound.as_policy(),
+            None => None,
         }
     }
 

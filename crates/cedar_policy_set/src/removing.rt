@@ -6,7 +6,7 @@ ghost use Rattle.cedar_policy_set.specs.Entries.{bound_at, without, has_links, i
 ghost use Rattle.cedar_policy_set.specs.Bounds.{policy_entry, entry_of};
 ghost use Rattle.cedar_policy_set.specs.Refused.{IsUnlinkRefusal, IsPolicyRefusal, IsTemplateRefusal, is_link_at, is_static_at, is_policy_at, is_template_at};
 
-use crate::bounds::Bound;
+use crate::bounds::{Bound, BoundKind};
 use crate::errors::{
     PolicySetPolicyRemovalError, PolicySetTemplateRemovalError, PolicySetUnlinkError,
 };
@@ -74,16 +74,13 @@ impl PolicySet {
         ensures refused { IfErr result (IsTemplateRefusal (bound_at self.old id.now) (has_links self.old id.now) id.now) }
         ensures err { OnErr result (self.new ≡ self.old) }
     {
-        match self.bound(id) {
-            None => {
-                let id = id.clone()?;
-                return Err(PolicySetTemplateRemovalError::RemovePolicyNoTemplateError(id));
-            }
-            Some(Bound::Policy(_)) => {
-                let id = id.clone()?;
-                return Err(PolicySetTemplateRemovalError::NotTemplateError(id));
-            }
-            Some(Bound::Template(_)) => {}
+        let Some(bound) = self.bound(id) else {
+            let id = id.clone()?;
+            return Err(PolicySetTemplateRemovalError::RemovePolicyNoTemplateError(id));
+        };
+        if let BoundKind::Policy(_) = bound.kind() {
+            let id = id.clone()?;
+            return Err(PolicySetTemplateRemovalError::NotTemplateError(id));
         }
         if self.has_links(id) {
             let id = id.clone()?;
@@ -111,9 +108,12 @@ impl PolicySet {
         ensures policy { bound_at self.old id.now ≡ Some (policy_entry result) }
         ensures id { policy_id result ≡ id.now }
     {
-        match self.take_away(id) {
-            Some(Bound::Policy(policy)) => Box::into_inner(policy),
-            _ => unreachable!(),
+        let Some(bound) = self.take_away(id) else {
+            unreachable!();
+        };
+        match bound.into_kind() {
+            BoundKind::Policy(policy) => policy,
+            BoundKind::Template(_) => unreachable!(),
         }
     }
 
@@ -125,9 +125,12 @@ impl PolicySet {
         ensures template { bound_at self.old id.now ≡ Some (a_template (syntax_of result.value)) }
         ensures id { template_id result.value ≡ id.now }
     {
-        match self.take_away(id) {
-            Some(Bound::Template(template)) => template,
-            _ => unreachable!(),
+        let Some(bound) = self.take_away(id) else {
+            unreachable!();
+        };
+        match bound.into_kind() {
+            BoundKind::Template(template) => template,
+            BoundKind::Policy(_) => unreachable!(),
         }
     }
 }

@@ -3,15 +3,13 @@ ghost use Rattle.std.specs.Prelude.{◌≡◌, ◌+◌, ◌<◌, ◌^◌, OnOk, 
 ghost use Rattle.std.specs.Option.{option_copied};
 ghost use Rattle.cedar_policy_set.specs.ScopeFinding.{covered, KeepsFound};
 ghost use Rattle.cedar_policy_set.specs.Bounds.{entry_of, entries_of, policy_seen};
-ghost use Rattle.cedar_policy_set.specs.Entries.{without};
 ghost use Rattle.cedar_policy_set.specs.Scopes.{IsEntryFound, Covers, policy_stood};
 
-use crate::bounds::Bound;
+use crate::bounds::{Bound, BoundKind};
 use crate::policy_map::PolicyMap;
 use crate::scope_index::index::ScopeIndex;
 use crate::sets::PolicySet;
 use cedar_policies::policies::Policy;
-use cedar_policy_parts::PolicyID;
 use std::alloc::{AllocError, Global};
 
 impl PolicySet {
@@ -54,18 +52,6 @@ fn cover(alloc: Global, scopes: &mut ScopeIndex, bound: &PolicyMap<Bound>) -> Re
     Ok(())
 }
 
-// What is known of the positions is what will be, once the entry of this id is taken out.
-pub(crate) fn uncover(scopes: &mut ScopeIndex, bound: &PolicyMap<Bound>, id: &PolicyID)
-    requires { Covers (entries_of bound.now) scopes.old }
-    ensures { Covers (without id.now (entries_of bound.now)) scopes.new }
-{
-    // The length is what says that a position fits.
-    let _len = bound.len();
-    if let Some(position) = bound.get_index_of(id) {
-        scopes.take_out(*bound.allocator(), position);
-    }
-}
-
 // Covers the next position, at which this stands.
 fn cover_next(alloc: Global, scopes: &mut ScopeIndex, next: &Bound) -> Result<(), AllocError>
     requires { covered scopes.old < 2 ^ 63 }
@@ -74,9 +60,9 @@ fn cover_next(alloc: Global, scopes: &mut ScopeIndex, next: &Bound) -> Result<()
     ensures kept { KeepsFound scopes.old scopes.new }
     ensures err { OnErr result (covered scopes.new ≡ covered scopes.old) }
 {
-    match next {
-        Bound::Policy(policy) => scopes.push(alloc, policy),
-        Bound::Template(_) => {
+    match next.kind() {
+        BoundKind::Policy(policy) => scopes.push(alloc, policy),
+        BoundKind::Template(_) => {
             scopes.skip();
             Ok(())
         }

@@ -11,7 +11,6 @@ use crate::map_values::{IntoValues, Values};
 use crate::numbers::{Numbers, numbered_id};
 use crate::policy_map::PolicyMap;
 use crate::scope_index::index::ScopeIndex;
-use crate::scopes::uncover;
 use cedar_policy_parts::PolicyID;
 use std::alloc::{AllocError, Global};
 use std::fmt;
@@ -257,7 +256,15 @@ impl PolicySet {
         ensures id { IfSome result (λ bound. bound_id bound ≡ id.now) }
     {
         self.numbers.take_away(id);
-        uncover(&mut self.scopes, &self.bound, id);
-        self.bound.shift_remove(id)
+        let alloc = *self.bound.allocator();
+        // The length is what says that a position fits.
+        let _len = self.bound.len();
+        match self.bound.shift_remove_full(id) {
+            None => None,
+            Some((position, bound)) => {
+                self.scopes.take_out(alloc, position);
+                Some(bound)
+            }
+        }
     }
 }

@@ -7,7 +7,7 @@ ghost use Rattle.cedar_policy_set.specs.Entries.{is_link};
 ghost use Rattle.cedar_policy_set.specs.Bounds.{bound_id, entry_of, policy_entry, ListsSlots};
 ghost use Rattle.cedar_policy_set.specs.Validated.{ValidatesAll, ValidatesOne, ValidatesTemplate};
 
-use crate::bounds::Bound;
+use crate::bounds::{Bound, BoundKind};
 use crate::errors::PolicySetValidationError;
 use crate::sets::PolicySet;
 use cedar_extensions::extensions::Extensions;
@@ -44,12 +44,12 @@ fn validate<F: ExtensionFunctionObject>(
     requires { ListsSlots bound.now }
     ensures { ValidatesOne (as_table F.answers extensions.now) (bound_id bound.now) (entry_of bound.now) result }
 {
-    match bound {
-        Bound::Template(template) => validate_template(alloc, template, extensions),
-        Bound::Policy(policy) if policy.is_static() => {
+    match bound.kind() {
+        BoundKind::Template(template) => validate_template(alloc, template, extensions),
+        BoundKind::Policy(policy) if policy.is_static() => {
             validate_template(alloc, policy.template(), extensions)
         }
-        Bound::Policy(link) => validate_link(link),
+        BoundKind::Policy(link) => validate_link(link),
     }
 }
 

@@ -39,7 +39,7 @@ pub use cedar_policy_parts::principals::PrincipalConstraint;
 pub use cedar_policy_parts::references::EntityReference;
 pub use cedar_policy_parts::resources::ResourceConstraint;
 pub use cedar_policy_parts::{Effect, PolicyID};
-pub use cedar_policy_set::bounds::Bound;
+pub use cedar_policy_set::bounds::{Bound, BoundKind};
 pub use cedar_policy_set::errors::{
     PolicySetError, PolicySetGetLinksError, PolicySetPolicyRemovalError,
     PolicySetTemplateRemovalError, PolicySetUnlinkError, PolicySetValidationError,

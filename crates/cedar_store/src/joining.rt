@@ -11,7 +11,7 @@ ghost use Rattle.cedar_store.specs.Merged.{is_more, joining};
 use crate::renaming::{Renaming, conflicts, copied, given_id, renamed_id};
 use cedar_policies::policies::Policy;
 use cedar_policies::templates::Template;
-use cedar_policy_set::bounds::Bound;
+use cedar_policy_set::bounds::{Bound, BoundKind};
 use cedar_policy_set::policy_map::PolicyMap;
 use cedar_policy_set::sets::PolicySet;
 use std::alloc::{AllocError, Global};
@@ -54,16 +54,16 @@ fn renamed(alloc: Global, renaming: &Renaming, bound: &Bound) -> Result<Bound, A
     ensures listed { IfOk result ListsSlots }
     ensures entry { IfOk result (λ made. entry_of made ≡ renamed renaming.now (entry_of bound.now)) }
 {
-    match bound {
-        Bound::Template(template) => {
+    match bound.kind() {
+        BoundKind::Template(template) => {
             let template = renamed_template(alloc, renaming, template)?;
-            Ok(Bound::Template(template))
+            Bound::from_template(alloc, template)
         }
-        Bound::Policy(policy) if policy.is_static() => {
+        BoundKind::Policy(policy) if policy.is_static() => {
             let policy = renamed_static(alloc, renaming, policy)?;
             Bound::from_policy(alloc, policy)
         }
-        Bound::Policy(policy) => {
+        BoundKind::Policy(policy) => {
             let policy = renamed_link(alloc, renaming, policy)?;
             Bound::from_policy(alloc, policy)
         }

@@ -7,14 +7,13 @@ use Rattle.std.specs.List.{Contains}
 use Rattle.std.specs.List.Sorted.{IsBinarySearchResult}
 use Rattle.std.specs.Ordering.{nat_cmp}
 use Rattle.cedar_language.specs.Value.{Value}
-use Rattle.cedar_values.specs.Hashes.{value_hash}
-use Rattle.cedar_values.specs.Lookups.{digest_of, places_from, PlacesMembers}
+use Rattle.cedar_values.specs.Lookups.{hash_of, places_from, PlacesMembers}
 use Rattle.cedar_values.specs.declared.values.lookups.HashedPlace.{HashedPlace}
 
 -- ---- the places of members
 
 place : ℕ → Value → HashedPlace
-place i v = record { hash = digest_of (value_hash v); position = i }
+place i v = record { hash = hash_of v; position = i }
 
 has_place : (i : ℕ) (vs : List Value) (v : Value) → (k : ℕ) → k < length vs → get_or vs k v ≡ v → (j : ℕ) × Contains (places_from i vs) (place j v)
 unfolding place
@@ -31,10 +30,11 @@ greater_is_not : Greater ≢ Equal
 greater_is_not e = cc
 
 -- where no place has the hash of a value, it is no member
-pub no_hash : (ps : List HashedPlace) (vs : List Value) (v : Value) (i : ℕ) → PlacesMembers ps vs → IsBinarySearchResult (λ (p : HashedPlace). nat_cmp p.hash (digest_of (value_hash v))) ps (Err i) → Contains vs v → ⊥
+pub no_hash : (ps : List HashedPlace) (vs : List Value) (v : Value) (i : ℕ) → PlacesMembers ps vs
+    → IsBinarySearchResult (λ (p : HashedPlace). nat_cmp p.hash (hash_of v)) ps (Err i) → Contains vs v → ⊥
 unfolding place
 no_hash ps vs v i places parted m =
-    let h = digest_of (value_hash v) in
+    let h = hash_of v in
     let there = has_place 0 vs v m.0 m.1 m.2 in
     let at = Contains-permutation (places_from 0 vs) ps (place there.0 v) places.each there.1 in
     let tied : nat_cmp (get_or ps at.0 (place there.0 v)).hash h ≡ Equal = ap (λ (p : HashedPlace). nat_cmp p.hash h) at.2 ∙ tied_itself nat_cmp_total h in

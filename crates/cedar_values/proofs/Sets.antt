@@ -1,5 +1,6 @@
 -- Sets: what a sort and a `dedup` make of values, and what a binary search finds among them.
-use Rattle.std.proofs.Common.{◌≡◌, ◌≢◌, ◌↔◌, ◌||◌, ◌&&◌, ℕ, zero, suc, ◌<◌, List, [], ◌∷◌, length, get_or, Bool, true, false, not, IsTrue, Ordering, Less, Equal, Greater, refl, sym, ap, ◌∙◌, inl, inr, add-one, arith, Result, Ok, Err}
+use Rattle.std.proofs.Common.{◌≡◌, ◌≢◌, ◌↔◌, ◌||◌, ◌&&◌, ℕ, zero, suc, ◌<◌, List, [], ◌∷◌, length, get_or, Bool, true, false, not, IsTrue, Ordering}
+use Rattle.std.proofs.Common.{Less, Equal, Greater, refl, sym, ap, ◌∙◌, inl, inr, add-one, arith, Result, Ok, Err}
 use Rattle.std.proofs.lemmas.Bool.{cases_lt}
 use Rattle.std.proofs.lemmas.Cmp.{tied_itself}
 use Rattle.std.proofs.lemmas.List.Filters.{dedup_is}
@@ -10,7 +11,7 @@ use Rattle.std.proofs.lemmas.List.Sorted.{Contains-permutation, IsPermutation-sy
 use Rattle.std.proofs.lemmas.List.Sums.{AllPass-from_list_all, list_all-from_AllPass}
 use Rattle.std.proofs.lemmas.Map.Views.{list_any-from_Contains, Contains-from_any}
 use Rattle.std.specs.Cmp.{eq_by_cmp_equiv}
-use Rattle.std.specs.List.{Contains, list_any, list_all}
+use Rattle.std.specs.List.{AllAdjacentBelow, AllByRecursion, Contains, list_any, list_all}
 use Rattle.std.specs.List.Retain.{IsFiltered, DiffersFromLast}
 use Rattle.std.specs.List.Sorted.{IsStrictlySortedBy, IsSorted, IsPermutation, IsSortedBy, IsBinarySearchResult, IsSearchInRange}
 use Rattle.std.specs.Ordering.{eq_by_cmp, is_lt, ordering_reverse}
@@ -26,12 +27,41 @@ use Rattle.cedar_language.specs.Sets.{SetsAreFinite}
 pub is_sorted : (xs ys : List Value) → IsSorted value_cmp xs → IsFiltered (DiffersFromLast (eq_by_cmp value_cmp)) [] xs ys → IsStrictlySortedBy value_cmp ys
 is_sorted xs ys s f = rw (dedup_is (eq_by_cmp value_cmp) xs ys f) (IsStrictlySortedBy-dedup value_cmp_total (λ x y. refl) xs s)
 
-pub has_members : (vs xs ys : List Value) → IsPermutation vs xs → IsFiltered (DiffersFromLast (eq_by_cmp value_cmp)) [] xs ys → (v : Value) → Contains ys v ↔ Contains vs v
+pub has_members : (vs xs ys : List Value) → IsPermutation vs xs → IsFiltered (DiffersFromLast (eq_by_cmp value_cmp)) [] xs ys → (v : Value)
+    → Contains ys v ↔ Contains vs v
 has_members vs xs ys p f v =
     let e = dedup_is (eq_by_cmp value_cmp) xs ys f in (
       λ h. Contains-permutation xs vs v (IsPermutation-sym vs xs p) (Contains-from_dedup (eq_by_cmp value_cmp) xs v (rw e at h)),
       λ h. rw e (Contains-dedup (eq_by_cmp_equiv value_cmp_total) (λ x y t. same_is x y t) xs v (Contains-permutation vs xs v p h)),
     )
+
+-- what is below the first of values that rise is below all of them
+below_all : (v : Value) (ws : List Value) → ((d : Value) → 0 < length ws → value_cmp v (get_or ws 0 d) ≡ Less) → IsStrictlySortedBy value_cmp ws
+    → AllByRecursion (λ w. value_cmp v w ≡ Less) ws
+unfolding IsStrictlySortedBy
+below_all v [] h s = tt
+below_all v (w ∷ ws) h s = (h w (omega arith), beyond ws s.0)
+  where
+    beyond : (us : List Value) → AllByRecursion (λ u. value_cmp w u ≡ Less) us → AllByRecursion (λ u. value_cmp v u ≡ Less) us
+    beyond [] a = tt
+    beyond (u ∷ us) a = (value_cmp_total.trans v w u (h w (omega arith)) a.0, beyond us a.1)
+
+-- values of which each is below the next rise
+pub rises : (vs : List Value) → AllAdjacentBelow (λ v w. value_cmp v w ≡ Less) vs (length vs) → IsStrictlySortedBy value_cmp vs
+unfolding IsStrictlySortedBy
+rises [] h = tt
+rises (v ∷ vs) h =
+    let rest = rises vs (λ k d l. rw add-one (rw add-one at (h (suc k) d (omega (arith, l))))) in
+    (below_all v vs (λ d l. h 0 d (omega (arith, l))) rest, rest)
+
+-- of values that rise each is below the next
+pub below_after : (vs : List Value) → IsStrictlySortedBy value_cmp vs → (i : ℕ) (v w : Value) → suc i < length vs → v ≡ get_or vs i v
+    → w ≡ get_or vs (suc i) w → value_cmp v w ≡ Less
+unfolding IsStrictlySortedBy
+below_after [] h i v w l is also = absurd (omega (arith, l))
+below_after (x ∷ []) h i v w l is also = absurd (omega (arith, l))
+below_after (x ∷ y ∷ ys) h zero v w l is also = ap (λ u. value_cmp u w) is ∙ ap (value_cmp x) also ∙ h.0.0
+below_after (x ∷ y ∷ ys) h (suc i) v w l is also = below_after (y ∷ ys) h.1 i v w (omega (arith, l)) is also
 
 -- ---- members, as the language has them
 
@@ -70,7 +100,8 @@ members_of [] = refl
 members_of (v ∷ vs) = ap (λ ws. v ∷ ws) (members_of vs)
 
 -- a strictly rising list of the same members is the language's set of these values
-pub is_rising : SetsAreFinite → (s vs : List Value) → IsStrictlySortedBy value_cmp s → ((v : Value) → Contains s v ↔ Contains vs v) → all_of s ≡ rising (all_of vs)
+pub is_rising : SetsAreFinite → (s vs : List Value) → IsStrictlySortedBy value_cmp s → ((v : Value) → Contains s v ↔ Contains vs v)
+    → all_of s ≡ rising (all_of vs)
 is_rising law s vs h f =
     law.by_members (all_of s) (rising (all_of vs)) (rw (members_of s) h) (law.rises (all_of vs))
     (λ v.
@@ -91,8 +122,10 @@ some_is ws (v ∷ vs) = ap (λ b. has_member ws v || b) (some_is ws vs)
 
 pub subset_is : (vs ws : List Value) → IsTrue (has_all (all_of ws) (all_of vs)) ↔ ((v : Value) → Contains vs v → Contains ws v)
 subset_is vs ws = (
-  λ h v m. (member_is ws v).0 (All-contains (λ x. has_member (all_of ws) x ≡ true) vs v (AllPass-from_list_all (has_member (all_of ws)) vs (sym (all_is (all_of ws) vs) ∙ h)) m),
-  λ f. all_is (all_of ws) vs ∙ list_all-from_AllPass (has_member (all_of ws)) vs (λ k d l. (member_is ws (get_or vs k d)).1 (f (get_or vs k d) (Contains-get_or vs k d l))),
+  λ h v m. (member_is ws v).0 (All-contains (λ x. has_member (all_of ws) x ≡ true) vs v
+      (AllPass-from_list_all (has_member (all_of ws)) vs (sym (all_is (all_of ws) vs) ∙ h)) m),
+  λ f. all_is (all_of ws) vs ∙ list_all-from_AllPass (has_member (all_of ws)) vs
+      (λ k d l. (member_is ws (get_or vs k d)).1 (f (get_or vs k d) (Contains-get_or vs k d l))),
 )
 
 not_true : (b : Bool) → not b ≡ true → b ≡ true → ⊥
@@ -110,7 +143,9 @@ disjoint_is vs ws = (
       not_true (has_some (all_of ws) (all_of vs)) h (some_is (all_of ws) vs ∙ list_any_at (has_member (all_of ws)) vs m.0 v m.1 there),
   λ f.
       let none : list_any (has_member (all_of ws)) vs ≡ false =
-      list_any_none (has_member (all_of ws)) vs (λ k d l. not_false (has_member (all_of ws) (get_or vs k d)) (λ t. f (get_or vs k d) (Contains-get_or vs k d l) ((member_is ws (get_or vs k d)).0 t))) in
+      list_any_none (has_member (all_of ws)) vs
+      (λ k d l. not_false (has_member (all_of ws) (get_or vs k d))
+      (λ t. f (get_or vs k d) (Contains-get_or vs k d l) ((member_is ws (get_or vs k d)).0 t))) in
       ap not (some_is (all_of ws) vs ∙ none),
 )
 
@@ -119,7 +154,8 @@ no_test vs v f = not_false (has_member (all_of vs) v) (λ t. f ((member_is vs v)
 
 -- ---- what a binary search finds
 
-below_next : (vs : List Value) → IsStrictlySortedBy value_cmp vs → (k : ℕ) (d : Value) → suc k < length vs → value_cmp (get_or vs k d) (get_or vs (suc k) d) ≡ Less
+below_next : (vs : List Value) → IsStrictlySortedBy value_cmp vs → (k : ℕ) (d : Value) → suc k < length vs
+    → value_cmp (get_or vs k d) (get_or vs (suc k) d) ≡ Less
 unfolding IsStrictlySortedBy
 below_next [] h k d l = absurd (omega (arith, l))
 below_next (x ∷ []) h k d l = absurd (omega (arith, l))
@@ -141,7 +177,8 @@ less_is_not e = cc
 greater_is_not : Greater ≢ Equal
 greater_is_not e = cc
 
-pub found : (vs : List Value) (v : Value) (r : Result ℕ ℕ) → IsStrictlySortedBy value_cmp vs → IsSearchInRange r (length vs) → IsBinarySearchResult (λ w. value_cmp w v) vs r → IsTrue (is_ok r) ↔ Contains vs v
+pub found : (vs : List Value) (v : Value) (r : Result ℕ ℕ) → IsStrictlySortedBy value_cmp vs → IsSearchInRange r (length vs)
+    → IsBinarySearchResult (λ w. value_cmp w v) vs r → IsTrue (is_ok r) ↔ Contains vs v
 found vs v (Ok i) h range at = (λ _. (i, range, value_cmp_same (get_or vs i v) v (at v)), λ _. refl)
 found vs v (Err i) h range parted = (
   λ t. absurd (cc),

@@ -2,10 +2,12 @@
 use Rattle.std.specs.Prelude.{◌≡◌, ℕ, ◌+◌, List, [], ◌∷◌, true, false}
 use Rattle.std.specs.Hash.{HashWrites}
 use Rattle.std.specs.Hash.FoldHasher as folding
+use Rattle.std.specs.Int.{w64, cast_unsigned}
 use Rattle.std.specs.List.{fold}
 use Rattle.std.specs.List.Sorted.{IsPermutation, IsSortedByKey}
 use Rattle.std.specs.Ordering.{nat_cmp}
-use Rattle.cedar_language.specs.Value.{Value}
+use Rattle.cedar_language.specs.Tree.{Long}
+use Rattle.cedar_language.specs.Value.{Value, Plain}
 use Rattle.cedar_values.specs.Hashes.{value_hash}
 use Rattle.cedar_values.specs.LiteralSets.{are_literals}
 use Rattle.cedar_values.specs.declared.values.lookups.HashedPlace.{HashedPlace}
@@ -16,10 +18,15 @@ use Rattle.cedar_values.specs.declared.values.lookups.Lookup.TheVariants.{Values
 abbrev pub digest_of : HashWrites → ℕ
 digest_of ws = folding.finish (fold folding.write folding.initial ws)
 
+-- the hash by which a member is looked up: a long's are its bits
+abbrev pub hash_of : Value → ℕ
+hash_of (Plain (Long n)) = cast_unsigned w64 n
+hash_of v = digest_of (value_hash v)
+
 -- the places of these values, the first at i
 abbrev pub places_from : ℕ → List Value → List HashedPlace
 places_from i [] = []
-places_from i (v ∷ vs) = record { hash = digest_of (value_hash v); position = i } ∷ places_from (i + 1) vs
+places_from i (v ∷ vs) = record { hash = hash_of v; position = i } ∷ places_from (i + 1) vs
 
 -- the places of the members, in rising order of their hashes
 pub record PlacesMembers (ps : List HashedPlace) (vs : List Value) : Type 0 where

@@ -87,7 +87,8 @@ impl Positions {
         ensures err { OnErr result ((u : Uid) → positions_at self.new u ≡ positions_at self.old u) }
     {
         let id = uid.eid().clone(alloc)?;
-        let mut places = Vec::new(alloc);
+        // Most entities are named by one scope.
+        let mut places = Vec::with_capacity(alloc, 1)?;
         places.push(place)?;
         self.by_id.insert(id, places)?;
         Ok(())

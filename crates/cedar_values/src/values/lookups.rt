@@ -7,7 +7,7 @@ ghost use Rattle.cedar_language.specs.Order.{value_cmp};
 ghost use Rattle.cedar_literals.specs.Literals.{literal_of};
 ghost use Rattle.cedar_values.specs.Kinds.{plain_of};
 ghost use Rattle.cedar_values.specs.LiteralSets as literal_sets;
-ghost use Rattle.cedar_values.specs.Lookups.{digest_of, FitsMembers, PlacesMembers};
+ghost use Rattle.cedar_values.specs.Lookups.{digest_of, hash_of, FitsMembers, PlacesMembers};
 ghost use Rattle.cedar_values.specs.Readers.{literal_in};
 
 use crate::values::orders::cmp_literal;
@@ -81,12 +81,32 @@ fn places_of(alloc: Global, members: &[Value]) -> Result<Vec<HashedPlace>, Alloc
     let mut places = Vec::with_capacity(alloc, members.len())?;
     for member in members {
         places.push(HashedPlace {
-            hash: digest(member),
+            hash: hash_of(member),
             position: places.len(),
         })?;
     }
     places.sort_unstable_by_key(|place| place.hash);
     Ok(places)
+}
+
+// The hash by which a member is looked up.
+fn hash_of(member: &Value) -> u64
+    ensures { result ≡ hash_of member.now }
+{
+    match &member.value {
+        ValueKind::Lit(literal) => hash_of_literal(literal),
+        ValueKind::Set(_) | ValueKind::Record(_) | ValueKind::ExtensionValue(_) => digest(member),
+    }
+}
+
+// A long has its bits for its hash: so the places of longs rise as these do, but for those below 0, and aren't sorted.
+fn hash_of_literal(literal: &Literal) -> u64
+    ensures { result ≡ hash_of (plain_of literal.now) }
+{
+    match literal {
+        Literal::Long(n) => n.cast_unsigned(),
+        Literal::Bool(_) | Literal::String(_) | Literal::EntityUID(_) => digest(literal),
+    }
 }
 
 fn digest<T: Hash>(item: &T) -> u64
@@ -103,7 +123,7 @@ pub(super) fn has_hashed(places: &[HashedPlace], members: &[Value], literal: &Li
     requires rising { IsStrictlySortedBy value_cmp members.now }
     ensures { IsTrue result ↔ Contains members.now (plain_of literal.now) }
 {
-    match places.binary_search_by_key(&digest(literal), |place| place.hash) {
+    match places.binary_search_by_key(&hash_of_literal(literal), |place| place.hash) {
         Err(_) => false,
         Ok(at) => {
             stands_at(members, places[at].position, literal) || has_literal(members, literal)

@@ -146,7 +146,7 @@ impl PartialEq for Value {
     ghost laws = { same_partial };
 
     fn eq(&self, other: &Value) -> bool {
-        self.value == other.value
+        self.cmp(other).is_eq()
     }
 }
 
@@ -183,8 +183,12 @@ impl Ord for Value {
 
     ghost matches_eq = { λ x y. refl };
 
+    // Two longs at once: where a set is made of many, this is asked most.
     fn cmp(&self, other: &Value) -> Ordering {
-        cmp_kinds(&self.value, &other.value)
+        match (&self.value, &other.value) {
+            (ValueKind::Lit(Literal::Long(n)), ValueKind::Lit(Literal::Long(m))) => n.cmp(m),
+            (kind, other) => cmp_kinds(kind, other),
+        }
     }
 }
 

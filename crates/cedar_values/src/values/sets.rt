@@ -31,10 +31,7 @@ impl Set {
         ensures language { IfOk result (λ set. all_of set ≡ rising (all_of values.items)) }
     {
         cedar_language::sets_are_finite();
-        let mut members = values;
-        members.sort()?;
-        members.dedup();
-        Set::of_rising(alloc, members)
+        Set::of_rising(alloc, each_once(values)?)
     }
 
     fn of_rising(alloc: Global, authoritative: Vec<Value>) -> Result<Set, AllocError>
@@ -160,6 +157,32 @@ impl Set {
     {
         Clone::clone(self)
     }
+}
+
+// Whether each value is below the next, as most sets are written.
+fn is_rising(values: &[Value]) -> bool
+    ensures { IsTrue result ↔ IsStrictlySortedBy value_cmp values.now }
+{
+    for at in 1..values.len() {
+        if !values[at - 1].cmp(&values[at]).is_lt() {
+            return false;
+        }
+    }
+    true
+}
+
+// The values, each once and below the next.
+fn each_once(values: Vec<Value>) -> Result<Vec<Value>, AllocError>
+    ensures rising { IfOk result (λ members. IsStrictlySortedBy value_cmp members.items) }
+    ensures members { IfOk result (λ members. (v : language.Value) → Contains members.items v ↔ Contains values.items v) }
+{
+    if is_rising(&values) {
+        return Ok(values);
+    }
+    let mut members = values;
+    members.sort()?;
+    members.dedup();
+    Ok(members)
 }
 
 fn are_members(values: &[Value], set: &Set) -> bool

@@ -1,5 +1,5 @@
 -- A policy is found as an entry (Covering).
-use Rattle.std.proofs.Common.{sym, subst}
+use Rattle.std.proofs.Common.{sym, subst, ◌∙◌}
 use Rattle.std.proofs.lemmas.Result.{on_ok_weaker}
 use Rattle.cedar_policies.specs.Policies.{bindings_of, policy_syntax}
 use Rattle.cedar_policy_set.specs.ScopeFinding.{covered, IsFound}
@@ -12,4 +12,5 @@ pub returns-in-Policy-clause-found : goal.returns-in-Policy-clause-found
 returns-in-Policy-clause-found c =
     let x = c.push.new.self in
     let p = covered c.args.scopes.now in
-    on_ok_weaker c.push.result (λ found. subst (λ b. IsEntryFound x p (entry_of b)) (sym c.in-Policy.is) (found_entered x p c.in-Policy.policy.value (subst (λ q. IsFound x p (bindings_of q) (policy_syntax q)) c.deref.ensures found))) c.push.ensures.found
+    on_ok_weaker c.push.result (λ found. subst (λ b. IsEntryFound x p (entry_of b)) (sym c.in-Policy.is ∙ c.kind.ensures)
+    (found_entered x p c.in-Policy.policy found)) c.push.ensures.found

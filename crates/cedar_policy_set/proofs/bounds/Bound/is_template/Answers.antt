@@ -10,4 +10,4 @@ use Rattle.cedar_policy_set.proofs.bounds.Bound.is_template.Goals as goal
 pub returns-in-Template : goal.returns-in-Template
 returns-in-Template c =
     same_templates c.has_same_syntax.result _ _ (decides_between c.has_same_syntax.ensures (ap syntax_of c.deref.ensures) refl)
-    ∙ ap (λ e. same_entry e (template (syntax_of c.args.template.now))) (ap entry_of (sym c.in-Template.is))
+    ∙ ap (λ e. same_entry e (template (syntax_of c.args.template.now))) (ap entry_of (sym c.in-Template.is ∙ c.kind.ensures))

@@ -10,5 +10,6 @@ pub returns-in-Err : goal.returns-in-Err
 returns-in-Err c =
     let at = c.binary_search_by_key.ensures.position (λ (p : HashedPlace). p.hash) (answers_always _ _ _ (λ f a r g called. search rules)) in (
       λ h. absurd (true≢false (sym h)),
-      λ m. absurd (no_hash c.args.places.now c.args.members.now (plain_of c.args.literal.now) c.in-Err.field-0 c.requires.places (rw (c.in-Err.is, c.digest.ensures) at at) m),
+      λ m. absurd (no_hash c.args.places.now c.args.members.now (plain_of c.args.literal.now) c.in-Err.field-0 c.requires.places
+          (rw (c.in-Err.is, c.hash_of_literal.ensures) at at) m),
     )

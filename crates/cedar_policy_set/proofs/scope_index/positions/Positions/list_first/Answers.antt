@@ -10,7 +10,7 @@ pub invariant_of-self : goal.invariant_of-self
 invariant_of-self c =
     let m = c.args.self.now.by_id in
     let id = c.eid.result.now in
-    let full : c.push.new.self.items ≢ [] = subst (λ ps. ps ≢ []) (sym c.in_ok-push.ensures.items) (listed_full c.new-places.result.items c.args.place) in
+    let full : c.push.new.self.items ≢ [] = subst (λ ps. ps ≢ []) (sym c.in_ok-push.ensures.items) (listed_full c.in_ok-places.places.items c.args.place) in
     record {
       listing = either_way c.insert.result c.insert.ensures.updates c.insert.ensures.err
           (λ updates. still_some (get text_cmp m) (get text_cmp c.insert.new.self) c.push.new.self id c.args.self.now.listing full
@@ -26,4 +26,4 @@ returns-clause-listed c =
     (listed_first (λ v. v.items) (get text_cmp m) (get text_cmp c.insert.new.self) id c.push.new.self c.push.new.self c.args.place
     (λ t. put_at _ c.push.new.self (get text_cmp m t) id t (c.in_ok-insert.ensures.updates.0 t ∙ (λ i. cond (is_at (text_cmp (c.in_ok-id.ensures i)) t) (Some c.push.new.self) (get text_cmp m t))))
     (λ t same. ap (λ o. option_map_or (λ v. v.items) o []) (sym (alike_there m id t same) ∙ ap (get text_cmp m) c.eid.ensures) ∙ c.requires)
-    (c.in_ok-push.ensures.items ∙ ap (λ ps. ps ++ c.args.place ∷ []) c.new-places.ensures.items))
+    (c.in_ok-push.ensures.items ∙ ap (λ ps. ps ++ c.args.place ∷ []) c.in_ok-places.ensures.items))

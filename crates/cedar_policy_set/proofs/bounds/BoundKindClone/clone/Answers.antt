@@ -4,9 +4,9 @@ use Rattle.std.specs.Prelude.{unwrap_or}
 use Rattle.cedar_grammar.specs.Policy.{slots}
 use Rattle.cedar_policies.specs.Templates.{template_id, syntax_of, listed_slots}
 use Rattle.cedar_policy_set.specs.Entries.{template}
-use Rattle.cedar_policy_set.specs.declared.bounds.Bound.TheVariants.{Policy, Template}
+use Rattle.cedar_policy_set.specs.declared.bounds.BoundKind.TheVariants.{Policy, Template}
 use Rattle.cedar_policy_set.specs.Bounds.{entry_by, IsCopy}
-use Rattle.cedar_policy_set.proofs.bounds.BoundClone.clone.Goals as goal
+use Rattle.cedar_policy_set.proofs.bounds.BoundKindClone.clone.Goals as goal
 
 pub returns-in_ok-clone-in-Policy : goal.returns-in_ok-clone-in-Policy
 returns-in_ok-clone-in-Policy c =
