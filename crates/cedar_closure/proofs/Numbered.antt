@@ -1,5 +1,6 @@
 -- What numbers reach, and the keys for which they stand.
-use Rattle.std.proofs.Common.{◌≡◌, Bool, true, false, ◌||◌, List, [], ◌∷◌, ◌++◌, IsTrue, refl, sym, ap, ◌∙◌, inl, inr, ℕ, zero, suc, ◌<◌, ◌≤◌, ◌+◌, length, take, slice_get, nat_eq, Some, None, ◌↔◌, true≢false, arith, subst, drop, slice_index_or, slice_set}
+use Rattle.std.proofs.Common.{◌≡◌, Bool, true, false, ◌||◌, List, [], ◌∷◌, ◌++◌, IsTrue, refl, sym, ap, ◌∙◌, inl, inr, ℕ, zero, suc, ◌<◌, ◌≤◌, ◌+◌}
+use Rattle.std.proofs.Common.{length, take, slice_get, nat_eq, Some, None, ◌↔◌, true≢false, arith, subst, drop, slice_index_or, slice_set}
 use Rattle.std.specs.Global.{Vec}
 use Rattle.std.specs.Option.{option_map_or}
 use Rattle.std.specs.Cmp.{IsEquivalence}
@@ -60,10 +61,12 @@ pub row_at : (rows : List (Vec ℕ)) (i : ℕ) (row : Vec ℕ) → i < length ro
 row_at rows i row below is = ap (λ o. option_map_or (λ (r : Vec ℕ). r.items) o []) (slice_get_read rows (length rows) i row refl below is)
 
 row_before : (rows after : List (Vec ℕ)) (row : Vec ℕ) (i : ℕ) → after ≡ rows ++ row ∷ [] → i < length rows → numbers_at after i ≡ numbers_at rows i
-row_before rows after row i pushed k = ap (λ rs. numbers_at rs i) pushed ∙ ap (λ o. option_map_or (λ (r : Vec ℕ). r.items) o []) (slice_get-front rows (row ∷ []) i k)
+row_before rows after row i pushed k = ap (λ rs. numbers_at rs i) pushed
+    ∙ ap (λ o. option_map_or (λ (r : Vec ℕ). r.items) o []) (slice_get-front rows (row ∷ []) i k)
 
 row_last : (rows after : List (Vec ℕ)) (row : Vec ℕ) (i : ℕ) → after ≡ rows ++ row ∷ [] → i ≡ length rows → numbers_at after i ≡ row.items
-row_last rows after row i pushed last = ap (λ j. numbers_at after j) last ∙ ap (λ rs. numbers_at rs (length rows)) pushed ∙ ap (λ o. option_map_or (λ (r : Vec ℕ). r.items) o []) (slice_get-behind rows row)
+row_last rows after row i pushed last = ap (λ j. numbers_at after j) last ∙ ap (λ rs. numbers_at rs (length rows)) pushed
+    ∙ ap (λ o. option_map_or (λ (r : Vec ℕ). r.items) o []) (slice_get-behind rows row)
 
 row_past : (rows : List (Vec ℕ)) (i : ℕ) → length rows ≤ i → numbers_at rows i ≡ []
 row_past rows i past = ap (λ o. option_map_or (λ (r : Vec ℕ). r.items) o []) (slice_get_past rows i past)
@@ -71,7 +74,8 @@ row_past rows i past = ap (λ o. option_map_or (λ (r : Vec ℕ). r.items) o [])
 pub no_targets : (edges : List (Vec ℕ)) (n : ℕ) → edges ≡ [] → (a b : ℕ) → HasTarget edges a b → b < n
 no_targets edges n none a b h = absurd (true≢false (sym h ∙ ap (λ rs. is_member nat_eq (numbers_at rs a) b) none))
 
-pub targets_below : (edges after : List (Vec ℕ)) (row : Vec ℕ) (low high : ℕ) → after ≡ edges ++ row ∷ [] → low ≤ high → ((i : ℕ) → IsTrue (is_member nat_eq row.items i) → i < high)
+pub targets_below : (edges after : List (Vec ℕ)) (row : Vec ℕ) (low high : ℕ) → after ≡ edges ++ row ∷ [] → low ≤ high
+    → ((i : ℕ) → IsTrue (is_member nat_eq row.items i) → i < high)
     → ((a b : ℕ) → HasTarget edges a b → b < low) → (a b : ℕ) → HasTarget after a b → b < high
 targets_below edges after row low high pushed grows last before a b h =
     let long : length after ≡ length edges + 1 = ap length pushed ∙ length_push edges row in
@@ -83,16 +87,27 @@ targets_below edges after row low high pushed grows last before a b h =
       ]
     ]
 
+-- at a number there is all that it reaches
+abbrev pub IsReachedAt : List (Vec ℕ) → List (Vec ℕ) → ℕ → Type 0
+IsReachedAt edges rows a = (b : ℕ) → IsTrue (is_member nat_eq (numbers_at rows a) b) ↔ Reaches (HasTarget edges) a b
+
+-- and at each from a first one on
+abbrev pub AreReachedFrom : ℕ → List (Vec ℕ) → List (Vec ℕ) → Type 0
+AreReachedFrom n edges rows = (a : ℕ) → n ≤ a → a < length rows → IsReachedAt edges rows a
+
 -- what is found at a number is below the bound
-pub reached_below : (edges rows : List (Vec ℕ)) → AreWithin edges → AreReached edges rows → (i : ℕ) → i < length rows → (q : ℕ) → IsTrue (is_member nat_eq (numbers_at rows i) q) → q < length edges
-reached_below edges rows within reached i below q h = let last = Reaches-last ((reached i below q).0 h) in within last.0 q last.1
+pub reached_below : (edges rows : List (Vec ℕ)) → AreWithin edges → (i : ℕ) → IsReachedAt edges rows i → (q : ℕ)
+    → IsTrue (is_member nat_eq (numbers_at rows i) q) → q < length edges
+reached_below edges rows within i reached q h = let last = Reaches-last ((reached q).0 h) in within last.0 q last.1
 
 -- the first of a list's elements
 pub take_front : {X : Type 0} (all first more : List X) (n : ℕ) → all ≡ first ++ more → n ≡ length first → take n all ≡ first
 take_front all first more n cut is = ap (λ xs. take n xs) cut ∙ ap (λ k. take k (first ++ more)) is ∙ take-append_seam first more
 
-pub take_at : {X : Type 0} (all first more : List X) (n i : ℕ) (x : X) → all ≡ first ++ more → n ≡ length first → i < n → slice_get all i ≡ Some x → slice_get (take n all) i ≡ Some x
-take_at all first more n i x cut is below here = ap (λ xs. slice_get xs i) (take_front all first more n cut is) ∙ sym (slice_get-front first more i (omega arith)) ∙ ap (λ xs. slice_get xs i) (sym cut) ∙ here
+pub take_at : {X : Type 0} (all first more : List X) (n i : ℕ) (x : X) → all ≡ first ++ more → n ≡ length first → i < n → slice_get all i ≡ Some x
+    → slice_get (take n all) i ≡ Some x
+take_at all first more n i x cut is below here = ap (λ xs. slice_get xs i) (take_front all first more n cut is)
+    ∙ sym (slice_get-front first more i (omega arith)) ∙ ap (λ xs. slice_get xs i) (sym cut) ∙ here
 
 pub drop_here : {X : Type 0} (xs : List X) (i : ℕ) (x : X) → slice_get xs i ≡ Some x → drop i xs ≡ x ∷ drop (i + 1) xs
 drop_here xs i x here = drop_more xs i x (slice_get_within xs i x here) ∙ ap (λ y. y ∷ drop (i + 1) xs) (get_or_from_slice_get xs i x x here)
@@ -111,16 +126,22 @@ reached_step edges rows after row members n pushed count is found before a below
       | inr k ↦
           let last : a ≡ length rows = omega arith in
           let number : a ≡ n = last ∙ count in
-          let same = ap (λ ns. is_member nat_eq ns b) (row_last rows after row a pushed last ∙ is) in
-          (λ h. subst (λ i. Reaches (HasTarget edges) i b) (sym number) ((found b).0 (sym same ∙ h)), λ r. same ∙ (found b).1 (subst (λ i. Reaches (HasTarget edges) i b) number r))
+          let same = ap (λ ns. is_member nat_eq ns b) (row_last rows after row a pushed last ∙ is) in (
+            λ h. subst (λ i. Reaches (HasTarget edges) i b) (sym number) ((found b).0 (sym same ∙ h)),
+            λ r. same
+                ∙ (found b).1 (subst (λ i. Reaches (HasTarget edges) i b) number r),
+          )
     ]
 
 or_parts : (a b : Bool) → (a || (b || false)) ≡ (a || b)
 or_parts a b = ap (λ c. a || c) (or_none b)
 
-pub below_step : (numbers after : List ℕ) (n low high : ℕ) → after ≡ numbers ++ n ∷ [] → low ≤ high → n < high → ((i : ℕ) → IsTrue (is_member nat_eq numbers i) → i < low) → (i : ℕ) → IsTrue (is_member nat_eq after i) → i < high
+pub below_step : (numbers after : List ℕ) (n low high : ℕ) → after ≡ numbers ++ n ∷ [] → low ≤ high → n < high
+    → ((i : ℕ) → IsTrue (is_member nat_eq numbers i) → i < low) → (i : ℕ) → IsTrue (is_member nat_eq after i) → i < high
 below_step numbers after n low high pushed grows last before i h =
-    elim (or_cases (is_member nat_eq numbers i) (nat_eq i n) (sym (or_parts (is_member nat_eq numbers i) (nat_eq i n)) ∙ sym (list_any-append (nat_eq i) numbers (n ∷ [])) ∙ ap (λ ns. is_member nat_eq ns i) (sym pushed) ∙ h)) [
+    elim (or_cases (is_member nat_eq numbers i) (nat_eq i n)
+    (sym (or_parts (is_member nat_eq numbers i) (nat_eq i n)) ∙ sym (list_any-append (nat_eq i) numbers (n ∷ []))
+    ∙ ap (λ ns. is_member nat_eq ns i) (sym pushed) ∙ h)) [
       | inl k ↦ let small : i < low = before i k in omega arith
       | inr k ↦ let same : i ≡ n = eqb-true i n k in omega arith
     ]
@@ -133,7 +154,8 @@ module _ {K : Type 0} (eq : K → K → Bool) where
   front_is_member xs ys q h = list_any-append (eq q) xs ys ∙ or_more _ _ h
 
   pub bound_step : (first all old added new : List K) → IsUnion eq old added new → ((q : K) → IsTrue (is_member eq added q) → IsTrue (is_member eq all q))
-      → ((q : K) → IsTrue (is_member eq old q) → IsTrue (is_member eq (first ++ all) q)) → (q : K) → IsTrue (is_member eq new q) → IsTrue (is_member eq (first ++ all) q)
+      → ((q : K) → IsTrue (is_member eq old q) → IsTrue (is_member eq (first ++ all) q)) → (q : K) → IsTrue (is_member eq new q)
+      → IsTrue (is_member eq (first ++ all) q)
   bound_step first all old added new union more before q h = elim (or_cases (is_member eq old q) (is_member eq added q) (sym (union q) ∙ h)) [
     | inl k ↦ before q k
     | inr k ↦ list_any-append (eq q) first all ∙ or_else (is_member eq first q) _ (more q k)
@@ -142,10 +164,11 @@ module _ {K : Type 0} (eq : K → K → Bool) where
 module _ {K : Type 0} {eq : K → K → Bool} (laws : IsEquivalence eq) where
   -- the key for which a number stands
   pub stood : (keys : List K) (q : K) (i : ℕ) → IsTrue (stands_for eq keys q i) → (x : K) × (slice_get keys i ≡ Some x) × IsTrue (eq q x)
-  stood keys q i h = elim (slice_get keys i) as (λ o. slice_get keys i ≡ o → IsTrue (option_map_or (eq q) o false) → (x : K) × (slice_get keys i ≡ Some x) × IsTrue (eq q x)) [
-    | None ↦ λ e k. absurd (true≢false (sym k))
-    | Some x ↦ λ e k. (x, e, k)
-  ] refl h
+  stood keys q i h = elim (slice_get keys i) as (λ o. slice_get keys i ≡ o → IsTrue (option_map_or (eq q) o false)
+      → (x : K) × (slice_get keys i ≡ Some x) × IsTrue (eq q x)) [
+        | None ↦ λ e k. absurd (true≢false (sym k))
+        | Some x ↦ λ e k. (x, e, k)
+      ] refl h
 
   pub stands : (keys : List K) (q x : K) (i : ℕ) → slice_get keys i ≡ Some x → IsTrue (eq q x) → IsTrue (stands_for eq keys q i)
   stands keys q x i e h = ap (λ o. option_map_or (eq q) o false) e ∙ h
@@ -160,18 +183,21 @@ module _ {K : Type 0} {eq : K → K → Bool} (laws : IsEquivalence eq) where
       ap (λ o. option_map_or (eq q) o false) s.1 ∙ laws.symm q s.0 ∙ sym (laws.congr x s.0 q s.2) ∙ laws.symm x q
 
   -- one more key, which stands for the next number
-  pub keys_step : (keys all after : List K) (x y : K) (ns left rest : List ℕ) (n : ℕ) → after ≡ all ++ y ∷ [] → left ≡ n ∷ rest → slice_get keys n ≡ Some x → IsTrue (eq x y)
+  pub keys_step : (keys all after : List K) (x y : K) (ns left rest : List ℕ) (n : ℕ) → after ≡ all ++ y ∷ [] → left ≡ n ∷ rest
+      → slice_get keys n ≡ Some x → IsTrue (eq x y)
       → ((q : K) → (is_member eq all q || is_numbered eq keys left q) ≡ is_numbered eq keys ns q)
       → (q : K) → (is_member eq after q || is_numbered eq keys rest q) ≡ is_numbered eq keys ns q
   keys_step keys all after x y ns left rest n pushed first at clone before q =
       ap (λ b. b || is_numbered eq keys rest q) (ap (λ ys. is_member eq ys q) pushed ∙ list_any-append (eq q) all (y ∷ []))
       ∙ or_step (is_member eq all q) (eq q y) (is_numbered eq keys rest q)
-      ∙ ap (λ b. is_member eq all q || (b || is_numbered eq keys rest q)) (laws.symm q y ∙ sym (laws.congr x y q clone) ∙ laws.symm x q ∙ sym (ap (λ o. option_map_or (eq q) o false) at))
+      ∙ ap (λ b. is_member eq all q || (b || is_numbered eq keys rest q))
+      (laws.symm q y ∙ sym (laws.congr x y q clone) ∙ laws.symm x q ∙ sym (ap (λ o. option_map_or (eq q) o false) at))
       ∙ ap (λ ms. is_member eq all q || is_numbered eq keys ms q) (sym first)
       ∙ before q
 
   -- more keys change nothing for the numbers of those that were there
-  pub numbered_still : (keys more new : List K) (numbers : List ℕ) → new ≡ keys ++ more → ((i : ℕ) → IsTrue (is_member nat_eq numbers i) → i < length keys) → (q : K) → is_numbered eq new numbers q ≡ is_numbered eq keys numbers q
+  pub numbered_still : (keys more new : List K) (numbers : List ℕ) → new ≡ keys ++ more
+      → ((i : ℕ) → IsTrue (is_member nat_eq numbers i) → i < length keys) → (q : K) → is_numbered eq new numbers q ≡ is_numbered eq keys numbers q
   numbered_still keys more new numbers cut below q = list_any_same (stands_for eq new q) (stands_for eq keys q) numbers (λ k i h.
       ap (λ o. option_map_or (eq q) o false) (ap (λ xs. slice_get xs i) cut ∙ slice_get-front keys more i (below i (member_at nat_eq_equiv numbers k i h))))
 
@@ -215,11 +241,13 @@ module _ {K : Type 0} {eq : K → K → Bool} (laws : IsEquivalence eq) where
   module _ (next : K → List K) (same : AreAlike laws next) (keys : List K) (edges : List (Vec ℕ))
       (lengths : length edges ≡ length keys) (within : AreWithin edges) (follows : AreEdgesOf eq keys next edges) where
     -- an edge between keys, and the number of its end
-    follow : (a q x : K) (i : ℕ) → slice_get keys i ≡ Some x → IsTrue (eq a x) → IsEdge eq next a q → (j : ℕ) × HasTarget edges i j × IsTrue (stands_for eq keys q j)
+    follow : (a q x : K) (i : ℕ) → slice_get keys i ≡ Some x → IsTrue (eq a x) → IsEdge eq next a q
+        → (j : ℕ) × HasTarget edges i j × IsTrue (stands_for eq keys q j)
     follow a q x i here alike h =
         let inside = slice_get_within keys i x here in
         let below : i < length edges = omega arith in
-        let found = passes_at (stands_for eq keys q) (numbers_at edges i) (follows i x below here q ∙ ap (λ xs. is_member eq xs q) (sym (same a x alike)) ∙ h) in
+        let found = passes_at (stands_for eq keys q) (numbers_at edges i)
+        (follows i x below here q ∙ ap (λ xs. is_member eq xs q) (sym (same a x alike)) ∙ h) in
         (found.1, member_at nat_eq_equiv (numbers_at edges i) found.0 found.1 found.2, found.3)
 
     -- an edge between numbers is one between their keys
@@ -229,16 +257,19 @@ module _ {K : Type 0} {eq : K → K → Bool} (laws : IsEquivalence eq) where
         let below : i < length edges = omega arith in
         let found = passes_at (nat_eq j) (numbers_at edges i) h in
         let is : j ≡ found.1 = eqb-true j found.1 found.3 in
-        sym (follows i x below here q) ∙ list_any-at (stands_for eq keys q) (numbers_at edges i) found.0 found.1 found.2 (ap (λ k. stands_for eq keys q k) (sym is) ∙ stood_for)
+        sym (follows i x below here q) ∙ list_any-at (stands_for eq keys q) (numbers_at edges i) found.0 found.1 found.2
+        (ap (λ k. stands_for eq keys q k) (sym is) ∙ stood_for)
 
-    pub reached_by_numbers : {i j : ℕ} → Reaches (HasTarget edges) i j → (x q : K) → slice_get keys i ≡ Some x → IsTrue (stands_for eq keys q j) → Reaches (IsEdge eq next) x q
+    pub reached_by_numbers : {i j : ℕ} → Reaches (HasTarget edges) i j → (x q : K) → slice_get keys i ≡ Some x → IsTrue (stands_for eq keys q j)
+        → Reaches (IsEdge eq next) x q
     reached_by_numbers (edge {a = i} {b = j} h) x q here last = edge (followed x q i j here h last)
     reached_by_numbers (further {a = i} {b = m} h r) x q here last =
         let inside : m < length keys = subst (λ n. m < n) lengths (within i m h) in
         let there = element_at keys m inside in
         further (followed x there.0 i m here h (stands keys there.0 there.0 m there.1 (laws.refl there.0))) (reached_by_numbers r there.0 q there.1 last)
 
-    pub reached_by_keys : {a q : K} → Reaches (IsEdge eq next) a q → (x : K) (i : ℕ) → slice_get keys i ≡ Some x → IsTrue (eq a x) → (j : ℕ) × Reaches (HasTarget edges) i j × IsTrue (stands_for eq keys q j)
+    pub reached_by_keys : {a q : K} → Reaches (IsEdge eq next) a q → (x : K) (i : ℕ) → slice_get keys i ≡ Some x → IsTrue (eq a x)
+        → (j : ℕ) × Reaches (HasTarget edges) i j × IsTrue (stands_for eq keys q j)
     reached_by_keys (edge {a} {b = q} h) x i here alike = let f = follow a q x i here alike h in (f.0, edge f.1, f.2)
     reached_by_keys (further {a} {b = m} h r) x i here alike =
         let f = follow a m x i here alike h in
@@ -247,14 +278,16 @@ module _ {K : Type 0} {eq : K → K → Bool} (laws : IsEquivalence eq) where
         (g.0, further f.1 g.1, g.2)
 
     -- the keys of the numbers that the number of a key reaches are those that the key reaches
-    pub row_is : (rows : List (Vec ℕ)) → AreReached edges rows → (i : ℕ) → i < length rows → (x : K) → slice_get keys i ≡ Some x → (found : List K) → ((q : K) → is_member eq found q ≡ is_numbered eq keys (numbers_at rows i) q) → (q : K) → IsTrue (is_member eq found q) ↔ Reaches (IsEdge eq next) x q
-    row_is rows reached i inside x here found are q = (
+    pub row_is : (rows : List (Vec ℕ)) (i : ℕ) → IsReachedAt edges rows i → (x : K) → slice_get keys i ≡ Some x → (found : List K)
+        → ((q : K) → is_member eq found q ≡ is_numbered eq keys (numbers_at rows i) q) → (q : K)
+        → IsTrue (is_member eq found q) ↔ Reaches (IsEdge eq next) x q
+    row_is rows i reached x here found are q = (
       λ h.
           let p = passes_at (stands_for eq keys q) (numbers_at rows i) (sym (are q) ∙ h) in
-          reached_by_numbers ((reached i inside p.1).0 (member_at nat_eq_equiv (numbers_at rows i) p.0 p.1 p.2)) x q here p.3,
+          reached_by_numbers ((reached p.1).0 (member_at nat_eq_equiv (numbers_at rows i) p.0 p.1 p.2)) x q here p.3,
       λ r.
           let f = reached_by_keys r x i here (laws.refl x) in
-          let p = passes_at (nat_eq f.0) (numbers_at rows i) ((reached i inside f.0).1 f.1) in
+          let p = passes_at (nat_eq f.0) (numbers_at rows i) ((reached f.0).1 f.1) in
           let is : f.0 ≡ p.1 = eqb-true f.0 p.1 p.3 in
           are q ∙ list_any-at (stands_for eq keys q) (numbers_at rows i) p.0 p.1 p.2 (ap (λ k. stands_for eq keys q k) (sym is) ∙ f.2),
     )
@@ -263,25 +296,39 @@ module _ {K : Type 0} {eq : K → K → Bool} (laws : IsEquivalence eq) where
 pub row_written : (rows : List (Vec ℕ)) (x : ℕ) (row : Vec ℕ) → x < length rows → numbers_at (slice_set rows x row) x ≡ row.items
 row_written rows x row below =
     let long : length (slice_set rows x row) ≡ length rows = length-set rows x row in
-    ap (λ o. option_map_or (λ (r : Vec ℕ). r.items) o []) (slice_get-get_or (slice_set rows x row) x row (omega arith) ∙ ap (λ r. Some r) (get_or-set_same rows x row row below))
+    ap (λ o. option_map_or (λ (r : Vec ℕ). r.items) o [])
+    (slice_get-get_or (slice_set rows x row) x row (omega arith) ∙ ap (λ r. Some r) (get_or-set_same rows x row row below))
 
 pub row_left : (rows : List (Vec ℕ)) (x a : ℕ) (row : Vec ℕ) → ¬ (a ≡ x) → numbers_at (slice_set rows x row) a ≡ numbers_at rows a
 row_left rows x a row other =
     let long : length (slice_set rows x row) ≡ length rows = length-set rows x row in
     ap (λ o. option_map_or (λ (r : Vec ℕ). r.items) o []) (elim (cases_lt a (length rows)) [
-      | inl k ↦ slice_get-get_or (slice_set rows x row) a row (omega arith) ∙ ap (λ r. Some r) (get_or-set_other rows x a row row other) ∙ sym (slice_get-get_or rows a row k)
+      | inl k ↦ slice_get-get_or (slice_set rows x row) a row (omega arith) ∙ ap (λ r. Some r) (get_or-set_other rows x a row row other)
+          ∙ sym (slice_get-get_or rows a row k)
       | inr k ↦ slice_get_past (slice_set rows x row) a (omega arith) ∙ sym (slice_get_past rows a k)
     ])
 
+-- what is found at a number may be let go of once it was looked at
+pub reached_past : (edges rows : List (Vec ℕ)) (n : ℕ) (row : Vec ℕ) → AreReachedFrom n edges rows → AreReachedFrom (n + 1) edges (slice_set rows n row)
+reached_past edges rows n row reached a from below b =
+    let long : length (slice_set rows n row) ≡ length rows = length-set rows n row in
+    let other : ¬ (a ≡ n) = λ e. absurd (let never : ⊥ = omega arith in never) in
+    let same = ap (λ ns. is_member nat_eq ns b) (row_left rows n a row other) in
+    let before = reached a (omega arith) (omega arith) b in
+    (λ h. before.0 (sym same ∙ h), λ r. same ∙ before.1 r)
+
 -- one more number in one of the lists
-pub within_pushed : (rows : List (Vec ℕ)) (x from : ℕ) (row more : Vec ℕ) → x < length rows → from < length rows → row ≡ slice_index_or rows x row → more.items ≡ row.items ++ from ∷ []
+pub within_pushed : (rows : List (Vec ℕ)) (x from : ℕ) (row more : Vec ℕ) → x < length rows → from < length rows → row ≡ slice_index_or rows x row
+    → more.items ≡ row.items ++ from ∷ []
     → AreWithin rows → AreWithin (slice_set rows x more)
 within_pushed rows x from row more below inside is pushed within a b h =
     let long : length (slice_set rows x more) ≡ length rows = length-set rows x more in
     subst (λ n. b < n) (sym long) (elim (eqb_tells a x) [
       | inl t ↦
-          let at : numbers_at (slice_set rows x more) a ≡ numbers_at rows x ++ from ∷ [] = ap (λ y. numbers_at (slice_set rows x more) y) t.1 ∙ row_written rows x more below ∙ pushed ∙ ap (λ ns. ns ++ from ∷ []) (sym (row_at rows x row below is)) in
-          elim (or_cases (is_member nat_eq (numbers_at rows x) b) (nat_eq b from || false) (sym (ap (λ ns. is_member nat_eq ns b) at ∙ list_any-append (nat_eq b) (numbers_at rows x) (from ∷ [])) ∙ h)) [
+          let at : numbers_at (slice_set rows x more) a ≡ numbers_at rows x ++ from ∷ [] = ap (λ y. numbers_at (slice_set rows x more) y) t.1
+          ∙ row_written rows x more below ∙ pushed ∙ ap (λ ns. ns ++ from ∷ []) (sym (row_at rows x row below is)) in
+          elim (or_cases (is_member nat_eq (numbers_at rows x) b) (nat_eq b from || false)
+          (sym (ap (λ ns. is_member nat_eq ns b) at ∙ list_any-append (nat_eq b) (numbers_at rows x) (from ∷ [])) ∙ h)) [
             | inl k ↦ within x b k
             | inr k ↦ let same : b ≡ from = eqb-true b from (sym (or_none (nat_eq b from)) ∙ k) in omega arith
           ]

@@ -37,10 +37,12 @@ pub(crate) fn reached_from_each<K: Eq + Hash + Clone + Drop, V: TCNode<K>, G: TC
     let first = each_once(alloc, listed)?;
     let count = first.len();
     let numbering = number_reached(alloc, nodes, first, only_direct)?;
-    let rows = reached_by_each(alloc, &numbering.edges, count)?;
-    let mut all = Vec::new(alloc);
+    let mut rows = reached_by_each(alloc, &numbering.edges, count)?;
+    let mut all = Vec::with_capacity(alloc, count)?;
     for number in 0..count {
         let keys = keys_at(alloc, &numbering.keys, &rows[number])?;
+        // The keys take its place.
+        rows[number] = Vec::new(alloc);
         let from = numbering.keys[number].clone()?;
         all.push(Reached { from, keys })?;
     }

@@ -140,7 +140,7 @@ pub(crate) fn keys_at<K: Eq + Clone + Drop>(
     requires below { (i : ℕ) → IsTrue (is_member nat_eq numbers.now i) → i < length keys.now }
     ensures { IfOk result (λ all. (q : K) → is_member K.eq all.items q ≡ is_numbered K.eq keys.now numbers.now q) }
 {
-    let mut all = Vec::new(alloc);
+    let mut all = Vec::with_capacity(alloc, numbers.len())?;
     for number in numbers {
         all.push(keys[*number].clone()?)?;
     }

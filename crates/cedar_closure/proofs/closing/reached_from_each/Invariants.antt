@@ -1,6 +1,7 @@
-use Rattle.std.proofs.Common.{drop, take}
+use Rattle.std.proofs.Common.{◌≡◌, drop, length, take}
 use Rattle.cedar_closure.specs.Graph.{edges_at, edges_of}
 use Rattle.cedar_closure.proofs.Finding.{FindsNoMore, FindsBut}
+use Rattle.cedar_closure.proofs.Numbered.{AreReachedFrom}
 use Rattle.cedar_closure.proofs.closing.reached_from_each.Given as goal
 
 abbrev pub invariant-loop-number : goal.invariant-loop-number
@@ -11,4 +12,6 @@ invariant-loop-number g l =
     record {
       sound : FindsNoMore eq next first l.all.items;
       whole : FindsBut eq next first l.all.items (drop l.number first);
+      count : length l.rows.items ≡ l.count;
+      reached : AreReachedFrom l.number l.numbering.edges.items l.rows.items;
     }
