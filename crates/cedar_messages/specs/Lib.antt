@@ -1,3 +1,4 @@
 pub mod Faults
+pub mod Json
 pub mod Places
 pub mod Telling

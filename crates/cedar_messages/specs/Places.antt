@@ -1,6 +1,9 @@
 -- Where a byte of a text stands, as editors count.
 use Rattle.std.specs.Prelude.{◌≡◌, ◌<◌, ℕ, List, Bool, nat_lt, nat_le, ◌+◌, ◌*◌, ◌||◌, ◌==◌, count_by, get_or, length, take}
 use Rattle.std.specs.List.{after_last}
+use Rattle.cedar_language.specs.Uid.{Text}
+use Rattle.cedar_names.specs.declared.places.Span.{Span}
+use Rattle.cedar_messages.specs.declared.places.Extent.{Extent}
 use Rattle.cedar_messages.specs.declared.places.Position.{Position}
 
 -- how many line feeds stand among these bytes
@@ -22,6 +25,10 @@ characters bytes = count_by begins_character bytes
 -- the line and the column of a byte
 abbrev pub position_at : List ℕ → ℕ → Position
 position_at bytes byte = record { line = 1 + line_feeds (take byte bytes); column = 1 + characters (last_line (take byte bytes)) }
+
+-- from its first byte to the first one behind it
+abbrev pub extent_at : Text → Span → Extent
+extent_at text span = record { start = position_at text span.start; end = position_at text span.end }
 
 -- of every 256th byte its line and column, from the first
 abbrev pub AreCounted : List ℕ → List Position → Type 0

@@ -1,22 +1,19 @@
-// The errors by which a text isn't read, told one behind the other.
+// What is told of the faults of a text, of one behind the other.
 ghost use Rattle.std.specs.Prelude.{◌≡◌, string_bytes, IfOk, OnOk};
 ghost use Rattle.cedar_parser.specs.ErrorsLeft.{errors_of};
-ghost use Rattle.cedar_messages.specs.Faults.{place_of, TellsErrors, TellsFault};
+ghost use Rattle.cedar_messages.specs.Faults.{reach, start_of, Tells, TellsErrors, TellsFault};
 ghost use Rattle.cedar_messages.specs.Telling.{Adds, AreBelow, TellsEach};
 
-use crate::brackets::unclosed;
-use crate::expected_tokens::expected;
-use crate::helping::help_of;
+use crate::fault::Fault;
+use crate::finding::faults_of;
 use crate::marking::push_source;
-use crate::places::{Places, Position};
+use crate::places::Position;
 use crate::telling::{push_indented, tell};
 use cedar_parser::err::{ParseError, ParseErrors};
 use std::alloc::{AllocError, Global};
 
-/// Tells each error by which a text isn't read, in their order, under a name for the text: a line
-/// `NAME:LINE:COLUMN: MESSAGE`, and below it the source line, a mark below what is wrong, what was expected there, and
-/// help where there is some. A text that is nested too deep has no place. Takes time linear in the text, and for each
-/// error time linear in what it is of. Refused for memory alone.
+/// Tells each error by which a text isn't read, in their order, under a name for the text, as [`tell_all`] tells its
+/// [`faults_of`]. Refused for memory alone.
 pub fn tell_faults(
     alloc: Global,
     name: &str,
@@ -25,11 +22,8 @@ pub fn tell_faults(
 ) -> Result<String, AllocError>
     ensures { IfOk result (λ told. TellsEach (TellsFault name.now text.now) (errors_of errors.now) (string_bytes told)) }
 {
-    let places = Places::of(alloc, text)?;
-    let mut told = String::new(alloc);
-    tell_fault(alloc, &mut told, name, &places, &errors.0.head)?;
-    tell_others(alloc, &mut told, name, &places, errors.0.tail.as_slice())?;
-    Ok(told)
+    let faults = faults_of(alloc, text, errors)?;
+    tell_all(alloc, name, text, faults.as_slice())
 }
 
 /// The same, unless the first of them is want of memory, for which it is refused too.
@@ -47,92 +41,84 @@ pub fn tell_unread(
     tell_faults(alloc, name, text, errors)
 }
 
-fn tell_others(
+/// Tells these faults of a text, in their order, under a name for the text: a line `NAME:LINE:COLUMN: MESSAGE`, and below
+/// it the source line, a mark below what is wrong, what was expected there, and help where there is some. Refused for
+/// memory alone.
+pub fn tell_all(
     alloc: Global,
-    told: &mut String,
     name: &str,
-    places: &Places<'_>,
-    errors: &[ParseError],
-) -> Result<(), AllocError>
-    ensures { OnOk result (Adds (TellsEach (TellsFault name.now places.now.text.now) errors.now) (string_bytes told.old) (string_bytes told.new)) }
+    text: &str,
+    faults: &[Fault],
+) -> Result<String, AllocError>
+    ensures { IfOk result (λ told. TellsEach (Tells name.now) faults.now (string_bytes told)) }
 {
-    for error in errors {
-        tell_fault(alloc, told, name, places, error)?;
+    let mut told = String::new(alloc);
+    for fault in faults {
+        tell_fault(alloc, &mut told, name, text, fault)?;
     }
-    Ok(())
+    Ok(told)
 }
 
 fn tell_fault(
     alloc: Global,
     told: &mut String,
     name: &str,
-    places: &Places<'_>,
-    error: &ParseError,
+    text: &str,
+    fault: &Fault,
 ) -> Result<(), AllocError>
-    ensures { OnOk result (Adds (TellsFault name.now places.now.text.now error.now) (string_bytes told.old) (string_bytes told.new)) }
+    ensures { OnOk result (Adds (Tells name.now fault.now) (string_bytes told.old) (string_bytes told.new)) }
 {
-    let place = place_of(places, error);
-    let message = format!(in alloc; "{error}")?;
-    let below = shown_below(alloc, places, error)?;
-    tell(alloc, told, name, place, message.as_str(), below.as_str())?;
+    let place = place_of(fault);
+    let below = shown_below(alloc, text, fault)?;
+    tell(
+        alloc,
+        told,
+        name,
+        place,
+        fault.message.as_str(),
+        below.as_str(),
+    )?;
     Ok(())
 }
 
-/// Where an error stands, if that is known.
-fn place_of(places: &Places<'_>, error: &ParseError) -> Option<Position>
-    ensures { result ≡ place_of places.now.text.now error.now }
+/// Where a fault begins, if that is known.
+fn place_of(fault: &Fault) -> Option<Position>
+    ensures { result ≡ start_of (reach fault.now) }
 {
-    match error {
-        ParseError::ToCST(error) => match error.primary_source_span() {
-            Some(span) => Some(places.position(span.start)),
-            None => None,
-        },
-        ParseError::ToAST(error) => match &error.loc {
-            Some(loc) => Some(places.position(loc.start())),
-            None => None,
-        },
-        ParseError::Depth | ParseError::Memory => None,
+    match fault.extent {
+        Some(extent) => Some(extent.start),
+        None => None,
     }
 }
 
-/// What is shown below the line of an error.
-fn shown_below(alloc: Global, places: &Places<'_>, error: &ParseError) -> Result<String, AllocError>
+/// What is shown below the line of a fault.
+fn shown_below(alloc: Global, text: &str, fault: &Fault) -> Result<String, AllocError>
     ensures { IfOk result (λ below. AreBelow (string_bytes below)) }
 {
     let mut below = String::new(alloc);
-    push_source(alloc, &mut below, places, error)?;
-    let expected = expected(alloc, error)?;
-    push_if_any(&mut below, expected)?;
-    let help = help(alloc, places, error)?;
-    push_if_any(&mut below, help)?;
+    push_source(alloc, &mut below, text, fault.mark)?;
+    push_if_any(&mut below, fault.expected())?;
+    push_help(alloc, &mut below, fault.help())?;
     Ok(below)
 }
 
-fn push_if_any(told: &mut String, line: Option<String>) -> Result<(), AllocError>
+fn push_if_any(told: &mut String, line: Option<&str>) -> Result<(), AllocError>
     ensures { OnOk result (Adds AreBelow (string_bytes told.old) (string_bytes told.new)) }
 {
     match line {
-        Some(line) => push_indented(told, line.as_str()),
+        Some(line) => push_indented(told, line),
         None => Ok(()),
     }
 }
 
-/// What helps: a sentence, or else which bracket isn't closed.
-fn help(
-    alloc: Global,
-    places: &Places<'_>,
-    error: &ParseError,
-) -> Result<Option<String>, AllocError> {
-    if let Some(sentence) = help_of(error, places.text) {
-        return Ok(Some(format!(in alloc; "help: {sentence}")?));
+fn push_help(alloc: Global, told: &mut String, help: Option<&str>) -> Result<(), AllocError>
+    ensures { OnOk result (Adds AreBelow (string_bytes told.old) (string_bytes told.new)) }
+{
+    match help {
+        Some(sentence) => {
+            let line = format!(in alloc; "help: {sentence}")?;
+            push_indented(told, line.as_str())
+        }
+        None => Ok(()),
     }
-    let Some((bracket, byte)) = unclosed(alloc, error, places.text)? else {
-        return Ok(None);
-    };
-    let at = places.position(byte);
-    let line = format!(in alloc;
-        "help: the `{bracket}` at {}:{} isn't closed",
-        at.line, at.column
-    )?;
-    Ok(Some(line))
 }

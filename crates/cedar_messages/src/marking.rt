@@ -3,7 +3,7 @@ ghost use Rattle.std.specs.Prelude.{string_bytes, OnOk};
 ghost use Rattle.cedar_messages.specs.Telling.{Adds, AreBelow};
 
 use crate::brackets::read;
-use crate::places::Places;
+use crate::places::{Extent, Places};
 use crate::telling::{LONGEST_LINE, push_marked};
 use cedar_names::places::Span;
 use cedar_parser::err::{ParseError, ToASTErrorKind};
@@ -14,39 +14,62 @@ use std::alloc::{AllocError, Global};
 /// A line behind a place is looked for so far: where more bytes stand before its end it is too long to be shown.
 const FURTHEST: usize = 1608;
 
-/// Adds the line in which a fault stands, and a mark below what is wrong in it.
+/// What is marked below its source line: so many characters, from this byte of the text on, which has this column.
+#[derive(Clone, Copy, Debug)]
+pub(crate) struct Underline {
+    byte: usize,
+    column: usize,
+    characters: usize,
+}
+
+/// What is marked of an error, if its line may be shown.
+pub(crate) fn mark_of(
+    alloc: Global,
+    places: &Places<'_>,
+    error: &ParseError,
+) -> Result<Option<Underline>, AllocError> {
+    let Some(span) = marked(alloc, error, places.text)? else {
+        return Ok(None);
+    };
+    let column = places.position(span.start).column;
+    if column > LONGEST_LINE {
+        return Ok(None);
+    }
+    Ok(Some(Underline {
+        byte: span.start,
+        column,
+        characters: width_of(places.text, span),
+    }))
+}
+
+/// The first character of a part of a text, if its line may be shown.
+pub(crate) fn mark_at(extent: Option<Extent>, span: Option<Span>) -> Option<Underline> {
+    let column = extent?.start.column;
+    if column > LONGEST_LINE {
+        return None;
+    }
+    Some(Underline {
+        byte: span?.start,
+        column,
+        characters: 1,
+    })
+}
+
+/// Adds the line of a text in which a mark stands, and the mark below it.
 pub(crate) fn push_source(
     alloc: Global,
     told: &mut String,
-    places: &Places<'_>,
-    error: &ParseError,
+    text: &str,
+    mark: Option<Underline>,
 ) -> Result<(), AllocError>
     ensures { OnOk result (Adds AreBelow (string_bytes told.old) (string_bytes told.new)) }
 {
-    match marked(alloc, error, places.text)? {
-        None => Ok(()),
-        Some(span) => push_span(alloc, told, places, span),
-    }
-}
-
-fn push_span(
-    alloc: Global,
-    told: &mut String,
-    places: &Places<'_>,
-    span: Span,
-) -> Result<(), AllocError>
-    ensures { OnOk result (Adds AreBelow (string_bytes told.old) (string_bytes told.new)) }
-{
-    let column = places.position(span.start).column;
-    if column > LONGEST_LINE {
+    let Some(mark) = mark else {
         return Ok(());
-    }
-    match line_at(places.text, span.start) {
+    };
+    match line_at(text, mark.byte) {
         None => Ok(()),
-        Some(line) => {
-            let width = width_of(places.text, span);
-            push_marked(alloc, told, line, column, width)
-        }
+        Some(line) => push_marked(alloc, told, line, mark.column, mark.characters),
     }
 }
 

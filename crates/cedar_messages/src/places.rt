@@ -1,7 +1,8 @@
 // Where a byte of a text stands.
 ghost use Rattle.std.specs.Prelude.{◌≡◌, ◌+◌, ◌≤◌, take, IfOk};
-ghost use Rattle.cedar_messages.specs.Places.{line_feeds, last_line, characters, begins_character, position_at, AreCounted};
+ghost use Rattle.cedar_messages.specs.Places.{line_feeds, last_line, characters, begins_character, extent_at, position_at, AreCounted};
 
+use cedar_names::places::Span;
 use std::alloc::{AllocError, Global};
 
 /// Where a byte of a text stands, as editors count: lines from 1, and in each line characters from 1.
@@ -9,6 +10,13 @@ use std::alloc::{AllocError, Global};
 pub struct Position {
     pub line: usize,
     pub column: usize,
+}
+
+/// From where to where a part of a text reaches: from its first byte to the first one behind it.
+#[derive(Clone, Copy, Debug, PartialEq, Eq)]
+pub struct Extent {
+    pub start: Position,
+    pub end: Position,
 }
 
 /// Where every text begins.
@@ -28,6 +36,16 @@ pub fn position_in(bytes: &[u8], byte: usize) -> Position
     ensures { result ≡ position_at bytes.now byte }
 {
     counted_on(bytes, 0, START, byte)
+}
+
+/// From where to where these bytes of a text reach.
+pub fn extent_in(text: &str, span: Span) -> Extent
+    ensures { result ≡ extent_at text.now span }
+{
+    Extent {
+        start: position_in(text.as_bytes(), span.start),
+        end: position_in(text.as_bytes(), span.end),
+    }
 }
 
 // Where a byte stands, counted on from one before it.
@@ -91,6 +109,16 @@ impl<'t> Places<'t> {
         match self.counted.get(block) {
             Some(at) => counted_on(bytes, block * BLOCK, *at, byte),
             None => position_in(bytes, byte),
+        }
+    }
+
+    /// From where to where these bytes of the text reach. Looks at 512 bytes at most.
+    pub fn extent(&self, span: Span) -> Extent
+        ensures { result ≡ extent_at self.now.text.now span }
+    {
+        Extent {
+            start: self.position(span.start),
+            end: self.position(span.end),
         }
     }
 }

@@ -151,31 +151,6 @@ fn width(c: char) -> usize {
     }
 }
 
-/// What is shown of a place in a text, if one is known: its line, where that has at most 400 characters, and a mark below
-/// the place. Refused for memory alone.
-pub fn shown(alloc: Global, text: &str, place: Option<Position>) -> Result<String, AllocError>
-    ensures { IfOk result (λ shown. AreBelow (string_bytes shown)) }
-{
-    let mut shown = String::new(alloc);
-    push_place(alloc, &mut shown, text, place)?;
-    Ok(shown)
-}
-
-fn push_place(
-    alloc: Global,
-    told: &mut String,
-    text: &str,
-    place: Option<Position>,
-) -> Result<(), AllocError>
-    ensures { OnOk result (Adds AreBelow (string_bytes told.old) (string_bytes told.new)) }
-{
-    let Some(at) = place else {
-        return Ok(());
-    };
-    let line = text.lines().nth(at.line.saturating_sub(1)).unwrap_or("");
-    push_marked(alloc, told, line, at.column, 1)
-}
-
 /// Adds a source line that isn't long, and a mark from a column of it, below so many characters.
 pub(crate) fn push_marked(
     alloc: Global,

@@ -1,3 +1,3 @@
 mod Checked
 mod NamesOnce
-mod PartsTold
+mod ReasonsTold

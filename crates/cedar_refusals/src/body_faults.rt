@@ -1,15 +1,19 @@
 // What is wrong with the shape of a body that is refused.
+use crate::seen::Seen;
 use crate::shapes::{Kind, Shape};
+use cedar_extensions::objects::ExtensionFunctionObject;
 use cedar_literals::escapes::Escaped;
-use cedar_names::places::Loc;
+use cedar_names::places::{Loc, Span};
 use cedar_restricted::borrowed::BorrowedRestrictedExpr;
-use cedar_session::Verb;
+use cedar_restricted::restricted::RestrictedExpr;
+use cedar_session::{Refusal, Verb};
+use cedar_telling::request_of;
 use std::alloc::{AllocError, Global};
 
-/// What is wrong with a body, and the byte of its text at which that stands, if it is known.
+/// What is wrong with a body, and the bytes of its text that are so, if they are known.
 #[derive(Debug, Drop)]
 pub(crate) struct BodyFault {
-    pub(crate) byte: Option<usize>,
+    pub(crate) span: Option<Span>,
     pub(crate) message: String,
 }
 
@@ -17,34 +21,36 @@ impl BodyFault {
     /// What is wrong with this part of a body.
     pub(crate) fn of(part: BorrowedRestrictedExpr<'_>, message: String) -> BodyFault {
         BodyFault {
-            byte: start_of(part.as_expr().source_loc()),
+            span: span_of(part.as_expr().source_loc()),
             message,
         }
     }
 }
 
-pub(crate) fn start_of(loc: Option<&Loc>) -> Option<usize> {
+pub(crate) fn span_of(loc: Option<&Loc>) -> Option<Span> {
     match loc {
-        Some(loc) => Some(loc.start()),
+        Some(loc) => Some(loc.span()),
         None => None,
     }
 }
 
 /// What keeps a body from having its command's shape.
-pub(crate) fn shape_fault(
+pub(crate) fn shape_fault<F: ExtensionFunctionObject>(
     alloc: Global,
+    seen: &Seen<'_, '_, F>,
     verb: Verb,
-    body: BorrowedRestrictedExpr<'_>,
+    body: &RestrictedExpr,
 ) -> Result<Option<BodyFault>, AllocError> {
+    let part = body.as_borrowed();
     match verb {
         Verb::Load => Ok(None),
-        Verb::Add | Verb::Put => entities_fault(alloc, body),
-        Verb::Link => record_fault(alloc, "the link", Shape::Link, body),
-        Verb::Ask => question_fault(alloc, body),
-        Verb::Tell => record_fault(alloc, "the body", Shape::Told, body),
-        Verb::Remove => kind_fault(alloc, "the body", Kind::Entities, body),
+        Verb::Add | Verb::Put => entities_fault(alloc, part),
+        Verb::Link => record_fault(alloc, "the link", Shape::Link, part),
+        Verb::Ask => question_fault(alloc, seen, body),
+        Verb::Tell => kind_fault(alloc, "the body", Kind::Record, part),
+        Verb::Remove => kind_fault(alloc, "the body", Kind::Entities, part),
         Verb::Unlink | Verb::RemoveStatic | Verb::RemoveTemplate => {
-            kind_fault(alloc, "the body", Kind::Text, body)
+            kind_fault(alloc, "the body", Kind::Text, part)
         }
     }
 }
@@ -90,14 +96,27 @@ fn entity_fault(
     record_fault(alloc, what.as_str(), Shape::Entity, entity)
 }
 
-/// Where each part of a question is as it must be, it is one of the types that isn't.
-fn question_fault(
+/// Where each part of a question is as it must be, it may be one of the types that isn't.
+fn question_fault<F: ExtensionFunctionObject>(
+    alloc: Global,
+    seen: &Seen<'_, '_, F>,
+    body: &RestrictedExpr,
+) -> Result<Option<BodyFault>, AllocError> {
+    let part = body.as_borrowed();
+    if let Some(fault) = record_fault(alloc, "the question", Shape::Question, part)? {
+        return Ok(Some(fault));
+    }
+    match request_of(alloc, body, seen.extensions, seen.depth) {
+        Err(Refusal::Shape) => types_fault(alloc, part),
+        Err(Refusal::Memory) => Err(AllocError),
+        _ => Ok(None),
+    }
+}
+
+fn types_fault(
     alloc: Global,
     body: BorrowedRestrictedExpr<'_>,
 ) -> Result<Option<BodyFault>, AllocError> {
-    if let Some(fault) = record_fault(alloc, "the question", Shape::Question, body)? {
-        return Ok(Some(fault));
-    }
     let message = String::from_str(
         alloc,
         "the question: a type isn't spelled as one, or stands beside its entity",

@@ -1,7 +1,7 @@
 // Why a session doesn't take what a body says of its entities, or of its question.
 use crate::body_faults::BodyFault;
-use crate::checking::DEPTH;
 use crate::naming::{listed, once, stands};
+use crate::seen::Seen;
 use crate::shapes::part_at;
 use cedar_closure::TcError;
 use cedar_entities::errors::EntitiesError;
@@ -10,49 +10,51 @@ use cedar_held::listed_entities;
 use cedar_literals::escapes::Escaped;
 use cedar_literals::uids::EntityUID;
 use cedar_restricted::borrowed::BorrowedRestrictedExpr;
-use cedar_session::{Entities, Extensions, Refusal, Session, Verb};
+use cedar_session::{Refusal, Verb};
 use std::alloc::{AllocError, Global};
 
-/// Which entity of a list isn't taken, beside those that are held.
+/// Which entity of a list isn't taken so, beside those that are held.
 pub(crate) fn edit_fault<F: ExtensionFunctionObject>(
     alloc: Global,
-    extensions: &Extensions<'_, F>,
-    held: &Entities,
+    seen: &Seen<'_, '_, F>,
     verb: Verb,
+    refused: Refusal,
     body: BorrowedRestrictedExpr<'_>,
 ) -> Result<Option<BodyFault>, AllocError> {
-    let entities = match listed_entities(alloc, body, extensions, DEPTH) {
+    let entities = match listed_entities(alloc, body, seen.extensions, seen.depth) {
         Ok(entities) => entities,
         Err(Refusal::Memory) => return Err(AllocError),
         Err(_) => return Ok(None),
     };
-    let mut held = held.clone(alloc)?;
+    let mut held = seen.entities.clone(alloc)?;
     let edited = match verb {
         Verb::Add => held.add_in_place(alloc, entities),
         _ => held.upsert_in_place(alloc, entities),
     };
     match edited {
         Ok(()) => Ok(None),
-        Err(error) => refused_edit_fault(alloc, &error, body),
+        Err(error) => refused_edit_fault(alloc, refused, &error, body),
     }
 }
 
 fn refused_edit_fault(
     alloc: Global,
+    refused: Refusal,
     error: &EntitiesError,
     body: BorrowedRestrictedExpr<'_>,
 ) -> Result<Option<BodyFault>, AllocError> {
     match error {
         EntitiesError::Memory(_) => Err(AllocError),
-        EntitiesError::Duplicate(duplicate) => {
+        EntitiesError::Duplicate(duplicate) if refused == Refusal::Duplicate => {
             let why = "stands there already, with other parts";
             uid_fault(alloc, body, duplicate.euid(), why)
         }
-        EntitiesError::TransitiveClosureError(TcError::HasCycle(cycle)) => {
+        EntitiesError::TransitiveClosureError(TcError::HasCycle(cycle))
+            if refused == Refusal::Cycle => {
             let why = "would be its own ancestor";
             uid_fault(alloc, body, cycle.vertex_with_loop(), why)
         }
-        EntitiesError::TransitiveClosureError(_) => Ok(None),
+        _ => Ok(None),
     }
 }
 
@@ -67,7 +69,7 @@ fn uid_fault(
     match last_of(body, uid) {
         Some(entity) => Ok(Some(BodyFault::of(entity, message))),
         None => Ok(Some(BodyFault {
-            byte: None,
+            span: None,
             message,
         })),
     }
@@ -97,16 +99,21 @@ fn has_uid(entity: BorrowedRestrictedExpr<'_>, uid: &EntityUID) -> bool {
     }
 }
 
-/// The first name of what is told that isn't among those that the question waits for.
+/// The first name of what is told that isn't among those that the question waits for, where one is so refused: for a name
+/// that was told before where each of these was.
 pub(crate) fn name_fault<F: ExtensionFunctionObject>(
     alloc: Global,
-    session: &Session<'_, '_, F>,
+    seen: &Seen<'_, '_, F>,
+    refused: Refusal,
     body: BorrowedRestrictedExpr<'_>,
 ) -> Result<Option<BodyFault>, AllocError> {
-    let untold = once(session.untold()?);
     let Some(pairs) = body.as_record_pairs() else {
         return Ok(None);
     };
+    if refused == Refusal::NoSuchUnknown && names_were_told(seen, body) {
+        return Ok(None);
+    }
+    let untold = once(Vec::from_slice(alloc, seen.untold)?);
     for (name, value) in pairs {
         if !stands(untold.as_slice(), name.as_str()) {
             let fault = unwanted(alloc, name.as_str(), untold.as_slice(), value)?;
@@ -114,6 +121,22 @@ pub(crate) fn name_fault<F: ExtensionFunctionObject>(
         }
     }
     Ok(None)
+}
+
+/// Whether each name of what is told is wanted, or was told before.
+fn names_were_told<F: ExtensionFunctionObject>(
+    seen: &Seen<'_, '_, F>,
+    body: BorrowedRestrictedExpr<'_>,
+) -> bool {
+    let (Some(pairs), Some(told)) = (body.as_record_pairs(), seen.told) else {
+        return false;
+    };
+    for (name, _) in pairs {
+        if !stands(seen.untold, name.as_str()) && !told.contains_key(name.as_str()) {
+            return false;
+        }
+    }
+    true
 }
 
 fn unwanted(

@@ -1,7 +1,7 @@
 // Why the values of a body are refused.
-use crate::body_faults::{BodyFault, start_of};
-use crate::checking::DEPTH;
+use crate::body_faults::{BodyFault, span_of};
 use crate::naming::is_variable;
+use crate::seen::Seen;
 use crate::shapes::part_at;
 use cedar_extensions::evaluation_error::EvaluationError;
 use cedar_extensions::objects::ExtensionFunctionObject;
@@ -10,7 +10,7 @@ use cedar_literals::escapes::Escaped;
 use cedar_restricted::borrowed::BorrowedRestrictedExpr;
 use cedar_restricted::partial_values::PartialValue;
 use cedar_restricted_evaluation::interpret_restricted;
-use cedar_session::{Extensions, Refusal, Verb};
+use cedar_session::{Refusal, Verb};
 use cedar_shapes::readers::ExprReaders;
 use cedar_trees::expr::{Expr, ExprKind};
 use std::alloc::{AllocError, Global};
@@ -18,25 +18,25 @@ use std::alloc::{AllocError, Global};
 /// The first value of a body by which it is so refused.
 pub(crate) fn value_fault<F: ExtensionFunctionObject>(
     alloc: Global,
-    extensions: &Extensions<'_, F>,
+    seen: &Seen<'_, '_, F>,
     verb: Verb,
     refused: Refusal,
     body: BorrowedRestrictedExpr<'_>,
 ) -> Result<Option<BodyFault>, AllocError> {
     match verb {
-        Verb::Add | Verb::Put => entities_fault(alloc, extensions, refused, body),
+        Verb::Add | Verb::Put => entities_fault(alloc, seen, refused, body),
         Verb::Ask => match part_at(body, "context") {
-            Some(context) => fields_fault(alloc, extensions, refused, "the context: key", context),
+            Some(context) => fields_fault(alloc, seen, refused, "the context: key", context),
             None => Ok(None),
         },
-        Verb::Tell => fields_fault(alloc, extensions, refused, "the body: key", body),
+        Verb::Tell => fields_fault(alloc, seen, refused, "the body: key", body),
         _ => Ok(None),
     }
 }
 
 fn entities_fault<F: ExtensionFunctionObject>(
     alloc: Global,
-    extensions: &Extensions<'_, F>,
+    seen: &Seen<'_, '_, F>,
     refused: Refusal,
     body: BorrowedRestrictedExpr<'_>,
 ) -> Result<Option<BodyFault>, AllocError> {
@@ -46,7 +46,7 @@ fn entities_fault<F: ExtensionFunctionObject>(
     let mut number = 0usize;
     for entity in entities {
         number = number.saturating_add(1);
-        if let Some(fault) = entity_fault(alloc, extensions, refused, number, entity)? {
+        if let Some(fault) = entity_fault(alloc, seen, refused, number, entity)? {
             return Ok(Some(fault));
         }
     }
@@ -55,14 +55,14 @@ fn entities_fault<F: ExtensionFunctionObject>(
 
 fn entity_fault<F: ExtensionFunctionObject>(
     alloc: Global,
-    extensions: &Extensions<'_, F>,
+    seen: &Seen<'_, '_, F>,
     refused: Refusal,
     number: usize,
     entity: BorrowedRestrictedExpr<'_>,
 ) -> Result<Option<BodyFault>, AllocError> {
     if let Some(attrs) = part_at(entity, "attrs") {
         let what = format!(in alloc; "entity {number}: attribute")?;
-        let fault = fields_fault(alloc, extensions, refused, what.as_str(), attrs)?;
+        let fault = fields_fault(alloc, seen, refused, what.as_str(), attrs)?;
         if fault.is_some() {
             return Ok(fault);
         }
@@ -70,7 +70,7 @@ fn entity_fault<F: ExtensionFunctionObject>(
     match part_at(entity, "tags") {
         Some(tags) => {
             let what = format!(in alloc; "entity {number}: tag")?;
-            fields_fault(alloc, extensions, refused, what.as_str(), tags)
+            fields_fault(alloc, seen, refused, what.as_str(), tags)
         }
         None => Ok(None),
     }
@@ -78,7 +78,7 @@ fn entity_fault<F: ExtensionFunctionObject>(
 
 fn fields_fault<F: ExtensionFunctionObject>(
     alloc: Global,
-    extensions: &Extensions<'_, F>,
+    seen: &Seen<'_, '_, F>,
     refused: Refusal,
     what: &str,
     record: BorrowedRestrictedExpr<'_>,
@@ -87,7 +87,7 @@ fn fields_fault<F: ExtensionFunctionObject>(
         return Ok(None);
     };
     for (key, value) in pairs {
-        let fault = field_fault(alloc, extensions, refused, value)?;
+        let fault = field_fault(alloc, seen, refused, value)?;
         if let Some(fault) = fault {
             return Ok(Some(behind_key(alloc, what, key.as_str(), fault)?));
         }
@@ -101,21 +101,21 @@ fn behind_key(
     key: &str,
     fault: BodyFault,
 ) -> Result<BodyFault, AllocError> {
-    let BodyFault { byte, message } = fault;
+    let BodyFault { span, message } = fault;
     let key = Escaped::new(key);
     let message = format!(in alloc; "{what} \"{key}\": {message}")?;
-    Ok(BodyFault { byte, message })
+    Ok(BodyFault { span, message })
 }
 
 fn field_fault<F: ExtensionFunctionObject>(
     alloc: Global,
-    extensions: &Extensions<'_, F>,
+    seen: &Seen<'_, '_, F>,
     refused: Refusal,
     value: BorrowedRestrictedExpr<'_>,
 ) -> Result<Option<BodyFault>, AllocError> {
     match refused {
         Refusal::BadUnknown => unnamed_fault(alloc, value),
-        _ => match interpret_restricted(alloc, value, extensions, DEPTH) {
+        _ => match interpret_restricted(alloc, value, seen.extensions, seen.depth) {
             Ok(partial) => open_fault(alloc, refused, value, &partial),
             Err(error) => error_fault(alloc, refused, &error),
         },
@@ -154,7 +154,7 @@ fn error_fault(
     }
     let message = format!(in alloc; "{error}")?;
     Ok(Some(BodyFault {
-        byte: start_of(error.source_loc()),
+        span: span_of(error.source_loc()),
         message,
     }))
 }
@@ -169,7 +169,7 @@ fn unnamed_fault(
     };
     let message = "`unknown` is called on no name, or on that of a variable";
     Ok(Some(BodyFault {
-        byte: start_of(call.source_loc()),
+        span: span_of(call.source_loc()),
         message: String::from_str(alloc, message)?,
     }))
 }

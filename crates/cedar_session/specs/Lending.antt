@@ -3,6 +3,7 @@ use Rattle.std.specs.Prelude.{◌≡◌, Bool, false, not, is_some, ◌&&◌, Op
 use Rattle.std.specs.FinMap as finite
 use Rattle.cedar_language.specs.Uid.{Text}
 use Rattle.cedar_world.specs.Answer.{Answer}
+use Rattle.cedar_world.specs.Asking.{Told}
 use Rattle.cedar_world.specs.Question.{is_unknown}
 use Rattle.cedar_world.specs.Setting.{Setting}
 use Rattle.cedar_world.specs.World.{World, Asked}
@@ -16,6 +17,10 @@ use Rattle.cedar_session.specs.Open.{bare}
 abbrev pub is_untold : Option Asked → Text → Bool
 is_untold None n = false
 is_untold (Some asked) n = not (is_some (finite.get asked.told n)) && is_unknown asked.question n
+
+-- the values that were told for a question's unknowns, by their names
+abbrev pub told_of : Asked → Told
+told_of asked = asked.told
 
 -- the first response to the question that is open, by the policies and entities held
 pub record IsResponse (by : Setting) (world : World) (response : PartialResponse) : Type 0 where

@@ -22,10 +22,10 @@ use std::mem;
 /// A session that owns the table of its functions, where [`Session`] borrows one: it is kept where nothing
 /// can be borrowed, as behind a pointer that another language holds.
 pub struct OwnedSession<'f, F: ExtensionFunctionObject = NoFunction> {
-    allocator: Global,
-    extensions: Extensions<'f, F>,
-    depth: u32,
-    held: Held,
+    pub(crate) allocator: Global,
+    pub(crate) extensions: Extensions<'f, F>,
+    pub(crate) depth: u32,
+    pub(crate) held: Held,
     ghost called: { AreNamesOf (functions_of F.answers extensions) held.names },
     ghost steady: { ∥ KeepsOpen (setting_with F.answers extensions depth) held.policies held.entities held.asked ∥₁ },
 }

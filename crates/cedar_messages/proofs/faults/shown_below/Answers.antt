@@ -9,6 +9,6 @@ returns c =
     let start = string_bytes c.new-below.result in
     let marked = string_bytes c.push_source.new.told in
     let expected = string_bytes c.push_if_any.new.told in
-    let new = string_bytes c.push_if_any-2.new.told in
+    let new = string_bytes c.push_help.new.told in
     let two = both_added AreBelow below_more start marked expected c.in_ok-push_source.ensures c.in_ok-push_if_any.ensures in
-    from_nothing AreBelow start new c.new-below.ensures.bytes (both_added AreBelow below_more start expected new two c.in_ok-push_if_any-2.ensures)
+    from_nothing AreBelow start new c.new-below.ensures.bytes (both_added AreBelow below_more start expected new two c.in_ok-push_help.ensures)

@@ -1,5 +1,5 @@
--- Its line has the place of the error.
-use Rattle.std.proofs.Common.{Option, string_bytes, sym, subst}
+-- Its line has the place of the fault.
+use Rattle.std.proofs.Common.{Option, sym, subst}
 use Rattle.cedar_messages.specs.Telling.{AreBelow, TellsOf}
 use Rattle.cedar_messages.specs.declared.places.Position.{Position}
 use Rattle.cedar_messages.proofs.faults.tell_fault.Goals as goal
