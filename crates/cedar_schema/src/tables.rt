@@ -1,5 +1,5 @@
 // What the names of types stand for.
-ghost use Rattle.std.specs.Prelude.{◌≡◌, Some, None, cond, IfOk, OnOk, OnErr};
+ghost use Rattle.std.specs.Prelude.{◌≡◌, ◌||◌, Some, None, is_some, cond, IfOk, OnOk, OnErr};
 ghost use Rattle.std.specs.Option.{option_map, option_copied};
 ghost use Rattle.cedar_language.specs.Order.{name_cmp};
 ghost use Rattle.cedar_schema_grammar.specs.Declared.{first_of, places};
@@ -86,6 +86,30 @@ impl TypeTable {
             ≡ first_of (entry_at self.now) (places namespace.now (path_view path.now))) }
     {
         Ok(Places::of(alloc, namespace, path)?.find(&self.declared))
+    }
+
+    /// Whether a type of this full name is declared.
+    pub fn declares(&self, name: &TypeName) -> bool
+        ensures { result ≡ is_some (entry_at self.now name.now) }
+    {
+        self.declared.get(name).is_some()
+    }
+
+    /// Whether a name stands for a type in a namespace, also for one that isn't known yet. Refused for memory alone.
+    pub fn names_type(
+        &self,
+        alloc: Global,
+        namespace: &[SharedText],
+        path: &Path,
+    ) -> Result<bool, AllocError>
+        ensures { IfOk result (λ names. names
+            ≡ (is_some (first_of (entry_at self.now) (places namespace.now (path_view path.now)))
+            || is_some (built_in_at self.now (path_view path.now)))) }
+    {
+        if self.declared_at(alloc, namespace, path)?.is_some() {
+            return Ok(true);
+        }
+        Ok(self.built_in_type(alloc, path)?.is_some())
     }
 
     /// The type that a name stands for in a namespace: what is declared goes before what is built in. None where nothing of

@@ -11,6 +11,7 @@ mod shapes;
 mod table;
 #[cfg(test)]
 mod tests;
+mod uids;
 
 pub use built_in::ExtensionType;
 pub use declarations::{Declarations, DeclaredAction, DeclaredEntity, DeclaredType, EntityBody};
@@ -19,3 +20,4 @@ pub use parents::EntityNames;
 pub use resolution::{ResolutionError, resolve_common_types};
 pub use shapes::EntityShape;
 pub use table::declared_table;
+pub use uids::{Uid, action_path};
