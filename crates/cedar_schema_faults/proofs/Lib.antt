@@ -1,0 +1,9 @@
+pub mod Telling
+pub mod Keying
+pub mod Repeating
+pub mod Numbering
+pub mod Naming
+pub mod Typing
+pub mod Declaring
+pub mod Grouping
+pub mod Cycling

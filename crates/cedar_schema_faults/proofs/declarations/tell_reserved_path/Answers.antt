@@ -1,0 +1,21 @@
+-- Told exactly where the test is true.
+use Rattle.std.proofs.Common.{◌≡◌, ◌++◌, ◌∷◌, [], ◌||◌, false, true, sym, ap, ◌∙◌}
+use Rattle.std.specs.Prelude.{map}
+use Rattle.std.proofs.lemmas.Result.{on_ok_weaker}
+use Rattle.std.specs.Rc.{rc_str_bytes}
+use Rattle.std.specs.List.{list_any}
+use Rattle.cedar_schema_grammar.specs.Faults as grammar
+use Rattle.cedar_schema_faults.specs.Views.{faults_view}
+use Rattle.cedar_schema_faults.proofs.Declaring.{exactly_where, exactly_not, empty_mapped}
+use Rattle.cedar_schema_faults.proofs.declarations.tell_reserved_path.Goals as goal
+
+pub returns-then-not-is_reserved : goal.returns-then-not-is_reserved
+returns-then-not-is_reserved c = exactly_not (faults_view c.args.told.now) _ _ (sym (c.has_cedar-is_reserved.ensures
+    ∙ ap (λ ws. list_any grammar.is_cedar (map rc_str_bytes ws)) c.deref.ensures.value) ∙ c.if-not-is_reserved.true)
+
+pub returns : goal.returns
+returns c = on_ok_weaker c.tell.result
+    (λ e. exactly_where (faults_view c.args.told.now) (faults_view c.tell.new.told) _ _ (sym (c.has_cedar-is_reserved.ensures
+    ∙ ap (λ ws. list_any grammar.is_cedar (map rc_str_bytes ws)) c.deref.ensures.value) ∙ c.if-not-is_reserved.false)
+    (e ∙ ap (λ n. faults_view c.args.told.now ++ grammar.ReservedNamespace n ∷ []) c.in_ok-name.ensures))
+    c.tell.ensures
