@@ -1,0 +1,10 @@
+pub mod Applied
+pub mod Cases
+pub mod Fielding
+pub mod Found
+pub mod Leading
+pub mod Naming
+pub mod Putting
+pub mod Seeing
+pub mod Shaped
+pub mod Viewing
