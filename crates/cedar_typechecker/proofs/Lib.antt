@@ -1,0 +1,13 @@
+pub mod Above
+pub mod Acting
+pub mod Among
+pub mod ByOperands
+pub mod Called
+pub mod Contained
+pub mod Fields
+pub mod Found
+pub mod Lazily
+pub mod Pathed
+pub mod Reaching
+pub mod Recorded
+pub mod Tagged

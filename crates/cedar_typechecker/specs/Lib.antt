@@ -1,0 +1,15 @@
+pub mod Attributes
+pub mod Calls
+pub mod Capabilities
+pub mod Containers
+pub mod Environments
+pub mod Forms
+pub mod Lub
+pub mod Operators
+pub mod Paths
+pub mod Plain
+pub mod Records
+pub mod Relations
+pub mod Results
+pub mod Tags
+pub mod Types
