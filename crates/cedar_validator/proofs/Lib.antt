@@ -1,0 +1,8 @@
+pub mod Naming
+pub mod Converted
+pub mod Told
+pub mod Filled
+pub mod Viewed
+pub mod Requested
+pub mod Slots
+pub mod Valid

@@ -1,0 +1,5 @@
+pub mod Names
+pub mod Converting
+pub mod SchemaTypes
+pub mod Environments
+pub mod Validating
