@@ -1,0 +1,4 @@
+mod Accepting
+pub mod Told
+pub mod Walking
+pub mod Worded

@@ -1,0 +1,4 @@
+pub mod Laws
+pub mod Requests
+pub mod Verdicts
+pub mod Walks
