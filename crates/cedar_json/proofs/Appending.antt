@@ -1,11 +1,12 @@
 -- Texts that grow at their end by what is written.
-use Rattle.std.proofs.Common.{◌≡◌, ℕ, ◌<◌, ◌≤◌, zero, suc, cond, List, [], ◌∷◌, ◌++◌, drop, length, Result, Ok, Err, refl, sym, ap, ◌∙◌, append_assoc, append-nil, arith}
+use Rattle.std.proofs.Common.{◌≡◌, ℕ, Bool, true, false, not, ◌&&◌, ◌||◌, ◌==◌, ◌<◌, ◌≤◌, zero, suc, cond, List, [], ◌∷◌, ◌++◌, drop, length, Result, Ok, Err, refl, sym, ap, ◌∙◌, append_assoc, append-nil, arith}
 use Rattle.std.specs.Prelude.{OnOk, is_ok, encode_utf8_all, encode_utf8, IsUtf8}
+use Rattle.std.specs.List.{list_all}
 use Rattle.std.specs.Str.{chars}
 use Rattle.std.proofs.lemmas.Str.{encodes-append, encodes-chars, encode_ascii}
-use Rattle.cedar_grammar.specs.Tokens.{colon}
+use Rattle.cedar_grammar.specs.Tokens.{quote, backslash, carriage_return, colon}
 use Rattle.cedar_json.specs.Parts.{key_written, part_written}
-use Rattle.cedar_json.specs.Written.{escaped_char, escaped, quoted, entry_written}
+use Rattle.cedar_json.specs.Written.{is_plain, escaped_char, escaped, quoted, entry_written}
 
 -- ---- one step
 
@@ -72,6 +73,17 @@ pub escaped_more : (cs : List ℕ) (c : ℕ) → escaped (cs ++ c ∷ []) ≡ es
 escaped_more [] c = append-nil (escaped_char c)
 escaped_more (d ∷ cs) c = ap (λ s. escaped_char d ++ s) (escaped_more cs c) ∙ sym (append_assoc (escaped_char d) (escaped cs) (escaped_char c))
 
+pub plain_escaped : (cs : List ℕ) → list_all is_plain cs ≡ true → escaped cs ≡ cs
+plain_escaped [] e = refl
+plain_escaped (c ∷ cs) e = by (c == quote) (c == backslash) (c == carriage_return) (plain_escaped cs) e
+  where
+    by : (q b r : Bool) → (list_all is_plain cs ≡ true → escaped cs ≡ cs) → (not q && not b && not r) && list_all is_plain cs ≡ true
+        → cond (q || b) (backslash ∷ c ∷ []) (cond r (backslash ∷ 114 ∷ []) (c ∷ [])) ++ escaped cs ≡ c ∷ cs
+    by false false false more f = ap (λ ds. c ∷ ds) (more f)
+    by true b r more f = absurd (cc f)
+    by false true r more f = absurd (cc f)
+    by false false true more f = absurd (cc f)
+
 -- an entry is its key, its value and a comma
 pub entry_is : (key one later : List ℕ) → (key_written key ++ one) ++ 44 ∷ later ≡ entry_written key one later
 entry_is key one later = append_assoc (key_written key) one (44 ∷ later) ∙ append_assoc (quoted key) (colon ∷ 32 ∷ []) (one ++ 44 ∷ later)
@@ -100,7 +112,7 @@ module _ {A E : Type 0} where
   on_part (Ok x) a b d e key value f g h = part_put a b d e key value f g h
   on_part (Err x) a b d e key value f g h = tt
 
-part_is : (key value rest : List ℕ) → part_written key value ++ rest ≡ entry_written key value rest
+pub part_is : (key value rest : List ℕ) → part_written key value ++ rest ≡ entry_written key value rest
 part_is key value rest =
     append_assoc (key_written key) (value ++ 44 ∷ []) rest ∙ ap (λ s. key_written key ++ s) (append_assoc value (44 ∷ []) rest)
     ∙ append_assoc (quoted key) (colon ∷ 32 ∷ []) (value ++ 44 ∷ rest)

@@ -41,7 +41,7 @@ entity_spelled names (object no_members) u a e = absurd (cc e)
 entity_spelled names (object (member k j no_members)) u a e = entity_by names j u (is_text k (codes "__entity")) a.1 e
 entity_spelled names (object (member k j (member l i ms))) u a e = uid_spelled_back names (object (member k j (member l i ms))) u a e
 
-abbrev literals : List Uid → List Tree
+abbrev pub literals : List Uid → List Tree
 literals us = map (λ u. Lit (Entity u)) us
 
 each_by : (names : Names) (cs ds : List ℕ) (us : List Uid) (o : Option Uid) (os : Option (List Uid)) → read_with o os ≡ Some us
@@ -55,7 +55,7 @@ each_by names cs ds us (Some u) (Some vs) e f g =
 each_by names cs ds us (Some u) None e f g = absurd (cc e)
 each_by names cs ds us None os e f g = absurd (cc e)
 
-each_spelled : (names : Names) (js : Items) (us : List Uid) → ItemsAreTexts js → each_entity js ≡ Some us
+pub each_spelled : (names : Names) (js : Items) (us : List Uid) → ItemsAreTexts js → each_entity js ≡ Some us
     → SpellsItems names token.RightBracket (each_written js) (literals us)
 each_spelled names no_items us a e =
     let same : [] ≡ us = cc e in subst (λ x. SpellsItems names token.RightBracket (93 ∷ []) (literals x)) same
@@ -136,7 +136,7 @@ fields_spelled (Some j) p a e = fields_by j p (datum j) a refl e
 abbrev parts : Uid → List Uid → Tree → Tree → List (Keyed Tree)
 parts u us a b = (codes "uid", Lit (Entity u)) ∷ (codes "parents", Apply MakeSet (trees (literals us))) ∷ (codes "attrs", a) ∷ (codes "tags", b) ∷ []
 
-uids_read : (us : List Uid) → each entity_of (trees (literals us)) ≡ Some us
+pub uids_read : (us : List Uid) → each entity_of (trees (literals us)) ≡ Some us
 uids_read [] = refl
 uids_read (u ∷ us) = ap (λ o. read_with (Some u) o) (uids_read us)
 

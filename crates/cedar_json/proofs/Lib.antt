@@ -17,3 +17,4 @@ pub mod Saying
 pub mod Paths
 pub mod Splitting
 pub mod AnswerTexts
+pub mod Behind

@@ -175,7 +175,7 @@ read_spelled : (names : Names) (s : Text) (u : Uid) (o : Option (List Token)) �
 read_spelled names s u None f e = absurd (cc e)
 read_spelled names s u (Some ts) f e = told_spelled names (path_in ts) u (λ x g. is_path ts x (are_of_text (chars s) ts ((reads_tokens (chars s) ts).1 f)) g) e
 
-asked_spelled : (names : Names) (j : Json) (u : Uid) → AreTexts j → asked_in j ≡ Some u → Spells names (asked_written j) (Lit (Entity u))
+pub asked_spelled : (names : Names) (j : Json) (u : Uid) → AreTexts j → asked_in j ≡ Some u → Spells names (asked_written j) (Lit (Entity u))
 asked_spelled names (string s) u a e = read_spelled names s u (tokens_of (chars s)) refl e
 asked_spelled names null u a e = absurd (cc e)
 asked_spelled names (boolean b) u a e = absurd (cc e)
@@ -199,7 +199,7 @@ part_spelled (Some j) p a e = by (asked_in j) refl e
     by (Some u) f e = let same : Given u ≡ p = cc e in record { uid = u; spells = λ names. asked_spelled names j u a f; is = sym same }
 
 -- a tree of entries, that the characters are
-record SpellsContext (cs : List ℕ) (context : Option Entries) : Type 0 where
+pub record SpellsContext (cs : List ℕ) (context : Option Entries) : Type 0 where
   pub tree : Tree
   pub spells : (names : Names) → Calls names tree → Spells names cs tree
   pub entries : Some (entries_of tree) ≡ Some context
@@ -213,7 +213,7 @@ context_by j q (Some t) a f e = by (entries_of t) refl e
     by None g e = absurd (cc e)
     by (Some es) g e = record { tree = t; spells = λ names h. read_back names j t a f h; entries = ap Some g ∙ e }
 
-context_spelled : (o : Option Json) (q : Option Entries) → TextsIf o → option_map or_empty (if_there context_in o) ≡ Some q → SpellsContext (fields_written o) q
+pub context_spelled : (o : Option Json) (q : Option Entries) → TextsIf o → option_map or_empty (if_there context_in o) ≡ Some q → SpellsContext (fields_written o) q
 context_spelled None q a e = record { tree = record_of []; spells = λ names h. record_spelled names (125 ∷ []) [] (no_entry names) refl; entries = e }
 context_spelled (Some j) q a e = context_by j q (datum j) a refl e
 
@@ -266,7 +266,7 @@ parts_spelled names p a r c cs ds es fs x y z w h =
     (entry_more names (codes "context") fs (125 ∷ []) c [] context_utf8 (w one) (no_entry names))))) refl
 
 -- an empty context is one too
-some_context : (o : Option (Option Entries)) (q : Option Entries) → option_map or_empty o ≡ Some q → (e : Entries) × (q ≡ Some e)
+pub some_context : (o : Option (Option Entries)) (q : Option Entries) → option_map or_empty o ≡ Some q → (e : Entries) × (q ≡ Some e)
 some_context None q f = absurd (cc f)
 some_context (Some None) q f = let same : Some (WithEntries [] no_trees) ≡ q = cc f in (WithEntries [] no_trees, sym same)
 some_context (Some (Some e)) q f = let same : Some e ≡ q = cc f in (e, sym same)

@@ -1,6 +1,6 @@
 -- What is read is said, and where nothing is read nothing is said.
-use Rattle.std.proofs.Common.{◌≡◌, ℕ, true, false, Option, Some, None, is_some, List, [], ◌++◌, refl, sym, ap, ◌∙◌, subst}
-use Rattle.std.specs.Prelude.{encode_utf8_all, IsUtf8, IsSomeAnd}
+use Rattle.std.proofs.Common.{◌≡◌, ℕ, true, false, Option, Some, None, is_some, Result, Ok, Err, List, [], ◌++◌, refl, sym, ap, ◌∙◌, subst}
+use Rattle.std.specs.Prelude.{encode_utf8_all, IsUtf8, IsSomeAnd, IfOk, IfErr}
 use Rattle.json.specs.Json.{Json, document}
 use Rattle.json.specs.Strict.{HasUniqueKeys}
 use Rattle.cedar_language.specs.Uid.{Text}
@@ -11,7 +11,7 @@ use Rattle.cedar_json.specs.Entities.{entities_in, entities_of}
 use Rattle.cedar_json.specs.EntitiesWritten.{entities_written}
 use Rattle.cedar_json.specs.Questions.{question_in, question_of}
 use Rattle.cedar_json.specs.QuestionsWritten.{asks_written}
-use Rattle.cedar_json.specs.Said.{SaysEntities, SaysQuestion, IsUnsaid, IsUnparsed}
+use Rattle.cedar_json.specs.Said.{SaysEntities, SaysQuestion, IsUnsaid, IsUnparsed, OfEachText}
 use Rattle.cedar_json.specs.Values.{datum, value_of, Says}
 use Rattle.cedar_json.specs.Written.{AreTexts, written}
 use Rattle.cedar_json.proofs.EntityTexts.{entities_text}
@@ -27,6 +27,21 @@ some_is None e = absurd (cc e)
 pub none_is : {A : Type 0} → (o : Option A) → is_some o ≡ false → o ≡ None
 none_is (Some a) e = absurd (cc e)
 none_is None e = refl
+
+-- ---- texts of one value
+
+module _ {A E : Type 0} where
+  pub ok_of_text : (Is : A → Text → Type 0) (r : Result A E) (json : Text) (j : Json) → document json ≡ Some j → IfOk r (λ a. OfEachText j (Is a))
+      → IfOk r (λ a. Is a json)
+  ok_of_text Is (Ok a) json j d each = each json d
+  ok_of_text Is (Err e) json j d each = tt
+
+  pub err_of_text : (Is : E → Text → Type 0) (r : Result A E) (json : Text) (j : Json) → document json ≡ Some j → IfErr r (λ e. OfEachText j (Is e))
+      → IfErr r (λ e. Is e json)
+  err_of_text Is (Ok a) json j d each = tt
+  err_of_text Is (Err e) json j d each = each json d
+
+-- ---- what is written
 
 abbrev IsText : List ℕ → List ℕ → List ℕ → Type 0
 IsText old new cs = (old ≡ []) × (new ≡ old ++ encode_utf8_all cs)

@@ -70,7 +70,7 @@ three k l m (number s) j h ms = (refl, refl)
 three k l m (array js) j h ms = (refl, refl)
 three k l m (object ns) j h ms = (refl, refl)
 
-string_is : (j : Json) (s : Text) → as_str j ≡ Some s → j ≡ string s
+pub string_is : (j : Json) (s : Text) → as_str j ≡ Some s → j ≡ string s
 string_is (string t) s e = let same : t ≡ s = cc e in ap string same
 string_is null s e = absurd (cc e)
 string_is (boolean b) s e = absurd (cc e)

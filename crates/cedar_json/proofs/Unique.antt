@@ -35,7 +35,7 @@ other_key k l ms i none found = by (is_text l k) refl
     by true e = absurd (true≢false (sym (found_among k ms i (ap (λ m. under m ms) (sym ((bytes_eq-Decides l k).0 e)) ∙ found)) ∙ none))
     by false e = refl
 
-abbrev Reads : List Text → Members → Type 0
+abbrev pub Reads : List Text → Members → Type 0
 Reads names ms = (k : Text) (j : Json) → is_among k names ≡ true → under k ms ≡ Some j → HasUniqueKeys j
 
 members_unique : (names : List Text) (ms : Members) → are_distinct (keys ms) ≡ true → only_under names ms ≡ true → Reads names ms → MembersHaveUniqueKeys ms
@@ -49,7 +49,7 @@ members_unique names (member k j ms) d o h =
           (ap (λ b. cond b (Some j) (under l ms)) (other_key k l ms i (not_true (is_among k (keys ms)) distinct.0) found) ∙ found)),
     )
 
-object_unique : (names : List Text) (ms : Members) → (only_under names ms && are_distinct (keys ms)) ≡ true → Reads names ms → HasUniqueKeys (object ms)
+pub object_unique : (names : List Text) (ms : Members) → (only_under names ms && are_distinct (keys ms)) ≡ true → Reads names ms → HasUniqueKeys (object ms)
 object_unique names ms h reads =
     let both = and_parts (only_under names ms) (are_distinct (keys ms)) h in (keys_apart (keys ms) both.1, members_unique names ms both.1 both.0 reads)
 
@@ -74,7 +74,7 @@ required_unique : {B : Type 0} → (read : Json → Option B) → ((j : Json) (b
     → and_then o read ≡ Some b → o ≡ Some j → HasUniqueKeys j
 required_unique read unique o b j e f = unique j b (ap (λ x. and_then x read) (sym f) ∙ e)
 
-optional_unique : {B : Type 0} → (read : Json → Option B) → ((j : Json) (b : B) → read j ≡ Some b → HasUniqueKeys j)
+pub optional_unique : {B : Type 0} → (read : Json → Option B) → ((j : Json) (b : B) → read j ≡ Some b → HasUniqueKeys j)
     → (o : Option Json) (b : Option B) (j : Json) → if_there read o ≡ Some b → o ≡ Some j → HasUniqueKeys j
 optional_unique read unique o b j e f =
     let x = option_is _ (read j) b (ap (if_there read) (sym f) ∙ e) in unique j x.0 x.1
@@ -104,7 +104,7 @@ each_unique : (js : Items) (us : List Uid) → each_entity js ≡ Some us → It
 each_unique no_items us e = tt
 each_unique (item j js) us e = let x = both_read (entity_in j) (each_entity js) us e in (entity_unique j x.0 x.1, each_unique js x.2 x.3)
 
-parents_unique : (j : Json) (us : List Uid) → parents_in j ≡ Some us → HasUniqueKeys j
+pub parents_unique : (j : Json) (us : List Uid) → parents_in j ≡ Some us → HasUniqueKeys j
 parents_unique (array js) us e = each_unique js us e
 parents_unique null us e = absurd (cc e)
 parents_unique (boolean b) us e = absurd (cc e)
@@ -112,7 +112,7 @@ parents_unique (number s) us e = absurd (cc e)
 parents_unique (string s) us e = absurd (cc e)
 parents_unique (object ms) us e = absurd (cc e)
 
-said_unique : {B : Type 0} → (read : Tree → Option B) → (j : Json) (b : B) → and_then (datum j) read ≡ Some b → HasUniqueKeys j
+pub said_unique : {B : Type 0} → (read : Tree → Option B) → (j : Json) (b : B) → and_then (datum j) read ≡ Some b → HasUniqueKeys j
 said_unique read j b e = let x = then_is (datum j) read b e in datum_unique j x.0 x.1
 
 -- ---- entities
@@ -177,7 +177,7 @@ entities_unique (object ms) bodies e = absurd (cc e)
 
 -- ---- questions
 
-asked_unique : (j : Json) (u : Uid) → asked_in j ≡ Some u → HasUniqueKeys j
+pub asked_unique : (j : Json) (u : Uid) → asked_in j ≡ Some u → HasUniqueKeys j
 asked_unique (string s) u e = tt
 asked_unique (object ms) u e = entity_unique (object ms) u e
 asked_unique null u e = absurd (cc e)

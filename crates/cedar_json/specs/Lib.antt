@@ -12,3 +12,4 @@ pub mod Said
 pub mod Told
 pub mod Bodies
 pub mod Answers
+pub mod FaultTexts

@@ -34,3 +34,7 @@ Tells (Err e) said = IsUnsaid said e
 abbrev pub IsUnparsed : Text → Unread → Type 0
 IsUnparsed json unread.Memory = ⊤
 IsUnparsed json unread.Unsaid = (j : Json) → document json ≡ Some j → ¬ HasUniqueKeys j
+
+-- what is so of each text of a value
+abbrev pub OfEachText : Json → (Text → Type 0) → Type 0
+OfEachText j Is = (json : Text) → document json ≡ Some j → Is json

@@ -1,5 +1,5 @@
 -- How a value of JSON is written as Cedar text, by its characters. Where it says no value this means nothing.
-use Rattle.std.specs.Prelude.{ℕ, ◌==◌, ◌||◌, cond, List, [], ◌∷◌, ◌++◌, codes, IsUtf8, ⊤}
+use Rattle.std.specs.Prelude.{ℕ, ◌==◌, ◌||◌, ◌&&◌, not, Bool, cond, List, [], ◌∷◌, ◌++◌, codes, IsUtf8, ⊤}
 use Rattle.std.specs.Str.{chars}
 use Rattle.json.specs.Json.{Json, null, boolean, number, string, array, object, Items, no_items, item, Members, no_members, member}
 use Rattle.cedar_language.specs.Uid.{Text}
@@ -15,6 +15,10 @@ escaped_char c = cond (c == quote || c == backslash) (backslash ∷ c ∷ []) (c
 abbrev pub escaped : List ℕ → List ℕ
 escaped [] = []
 escaped (c ∷ cs) = escaped_char c ++ escaped cs
+
+-- a character stands between quotes as it is
+abbrev pub is_plain : ℕ → Bool
+is_plain c = not (c == quote) && not (c == backslash) && not (c == carriage_return)
 
 abbrev pub quoted : Text → List ℕ
 quoted s = quote ∷ (escaped (chars s) ++ quote ∷ [])

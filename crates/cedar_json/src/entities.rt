@@ -40,7 +40,7 @@ fn are_entities(items: &Vec<Value<'_>>) -> bool
 }
 
 /// Whether a value is a list of entities.
-fn are_parents(value: &Value<'_>) -> bool
+pub fn are_parents(value: &Value<'_>) -> bool
     ensures { result ≡ is_some (parents_in (value_view value.now)) }
 {
     match value {

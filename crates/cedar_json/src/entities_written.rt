@@ -43,7 +43,8 @@ fn write_uid_found(out: &mut String, found: Option<&Value<'_>>) -> Result<(), Al
     }
 }
 
-fn write_parents_of(out: &mut String, value: &Value<'_>) -> Result<(), AllocError>
+/// Appends a list of entities.
+pub fn write_parents_of(out: &mut String, value: &Value<'_>) -> Result<(), AllocError>
     ensures { Appends result out.old out.new (parents_written (Some (value_view value.now))) }
 {
     match value {

@@ -1,6 +1,7 @@
 // The first fault of a value of JSON. What is found is only tested.
 use crate::entities::is_entity;
 use crate::faults::FaultKind;
+use crate::found::{Found, MaybeFound, at_key, behind, here};
 use crate::object_keys::is_one_of;
 use crate::places::Step;
 use crate::reading::Unread;
@@ -11,93 +12,6 @@ use crate::writing::{Members, find, two_strings};
 use json::Value;
 use std::alloc::{AllocError, Global};
 use std::collections::BTreeMap;
-
-/// A fault: of what it speaks, what was expected, and the steps to its place, the last one first.
-#[derive(Drop)]
-pub struct Found<'v> {
-    pub kind: FaultKind,
-    subject: &'v str,
-    expected: &'static str,
-    pub steps: Vec<Step<'v>>,
-    /// Whether its place is that of a key.
-    pub at_key: bool,
-}
-
-impl<'v> Found<'v> {
-    /// A fault right here.
-    pub fn new(
-        alloc: Global,
-        kind: FaultKind,
-        subject: &'v str,
-        expected: &'static str,
-    ) -> Found<'v> {
-        Found {
-            kind,
-            subject,
-            expected,
-            steps: Vec::new(alloc),
-            at_key: false,
-        }
-    }
-
-    /// The fault in words.
-    pub fn message(&self, alloc: Global) -> Result<String, AllocError> {
-        let subject = self.subject;
-        let expected = self.expected;
-        match self.kind {
-            FaultKind::Mark => String::from_str(alloc, "the text begins with a byte order mark"),
-            FaultKind::NotJson => String::from_str(alloc, "no JSON here"),
-            FaultKind::Nesting => String::from_str(alloc, "it nests deeper than 128"),
-            FaultKind::TwiceKey => format!(in alloc; "key {subject:?} stands twice"),
-            FaultKind::Null => String::from_str(alloc, "null is no value of Cedar"),
-            FaultKind::Float => format!(in alloc; "{subject} is no long: numbers are whole"),
-            FaultKind::Range => format!(in alloc; "{subject} is no long: out of range"),
-            FaultKind::Uid => format!(in alloc; "no entity: expected {expected}"),
-            FaultKind::Type => format!(in alloc; "{subject:?} is no {expected}"),
-            FaultKind::Extn => format!(in alloc; "no call: {expected}"),
-            FaultKind::Key => format!(in alloc; "key {subject:?} is none of {expected}"),
-            FaultKind::Missing => format!(in alloc; "key {subject:?} is missing"),
-            FaultKind::Kind => format!(in alloc; "{subject} is no {expected}"),
-        }
-    }
-}
-
-type MaybeFound<'v> = Result<Option<Found<'v>>, AllocError>;
-
-/// A fault right here.
-fn here<'v>(
-    alloc: Global,
-    kind: FaultKind,
-    subject: &'v str,
-    expected: &'static str,
-) -> MaybeFound<'v> {
-    Ok(Some(Found::new(alloc, kind, subject, expected)))
-}
-
-/// A fault at a key.
-fn at_key<'v>(
-    alloc: Global,
-    kind: FaultKind,
-    key: &'v str,
-    number: usize,
-    expected: &'static str,
-) -> MaybeFound<'v> {
-    let mut found = Found::new(alloc, kind, key, expected);
-    found.at_key = true;
-    found.steps.push(Step::Member(key, number))?;
-    Ok(Some(found))
-}
-
-/// The same fault, one step further out.
-fn behind<'v>(found: Option<Found<'v>>, step: Step<'v>) -> MaybeFound<'v> {
-    match found {
-        Some(mut found) => {
-            found.steps.push(step)?;
-            Ok(Some(found))
-        }
-        None => Ok(None),
-    }
-}
 
 /// The first key that stood before.
 fn twice_found<'v>(alloc: Global, members: &'v Members<'_>) -> MaybeFound<'v> {
@@ -307,7 +221,7 @@ fn name_found<'v>(alloc: Global, name: &'v str) -> MaybeFound<'v> {
 }
 
 /// What is wrong with an object of values.
-fn record_found<'v>(alloc: Global, value: &'v Value<'_>) -> MaybeFound<'v> {
+pub fn record_found<'v>(alloc: Global, value: &'v Value<'_>) -> MaybeFound<'v> {
     match value {
         Value::Object(members) => entries_found(alloc, members),
         _ => here(alloc, FaultKind::Kind, "what stands there", "object"),
@@ -315,7 +229,7 @@ fn record_found<'v>(alloc: Global, value: &'v Value<'_>) -> MaybeFound<'v> {
 }
 
 /// What is wrong with a list of entities.
-fn parents_found<'v>(alloc: Global, value: &'v Value<'_>) -> MaybeFound<'v> {
+pub fn parents_found<'v>(alloc: Global, value: &'v Value<'_>) -> MaybeFound<'v> {
     let Value::Array(items) = value else {
         return here(alloc, FaultKind::Kind, "what stands there", "list");
     };
@@ -366,7 +280,7 @@ fn body_found<'v>(alloc: Global, value: &'v Value<'_>) -> MaybeFound<'v> {
 }
 
 /// What is wrong with the keys of an object.
-fn keys_found<'v>(
+pub fn keys_found<'v>(
     alloc: Global,
     members: &'v Members<'_>,
     names: &[&str],
@@ -382,7 +296,7 @@ fn keys_found<'v>(
 /// What is wrong with a list of entities and their parts.
 pub fn entities_found<'v>(alloc: Global, value: &'v Value<'_>) -> MaybeFound<'v> {
     let Value::Array(items) = value else {
-        return here(alloc, FaultKind::Kind, "the text", "list");
+        return here(alloc, FaultKind::Kind, "what stands there", "list");
     };
     for number in 0..items.len() {
         let item = &items[number];
@@ -395,7 +309,7 @@ pub fn entities_found<'v>(alloc: Global, value: &'v Value<'_>) -> MaybeFound<'v>
 }
 
 /// What is wrong with an entity of a question.
-fn asked_found<'v>(alloc: Global, value: &'v Value<'_>) -> MaybeFound<'v> {
+pub fn asked_found<'v>(alloc: Global, value: &'v Value<'_>) -> MaybeFound<'v> {
     let Value::String(text) = value else {
         return entity_found(alloc, value);
     };
@@ -425,7 +339,7 @@ fn missing_part(members: &Members<'_>) -> Option<&'static str> {
 /// What is wrong with a question.
 pub fn question_found<'v>(alloc: Global, value: &'v Value<'_>) -> MaybeFound<'v> {
     let Value::Object(members) = value else {
-        return here(alloc, FaultKind::Kind, "the text", "object");
+        return here(alloc, FaultKind::Kind, "what stands there", "object");
     };
     let names = ["principal", "action", "resource", "context"];
     let keys = keys_found(

@@ -2,10 +2,12 @@
 // just where nothing is said.
 ghost use Rattle.std.specs.Prelude.{◌≡◌, not, is_some, IfOk};
 ghost use Rattle.cedar_json.specs.Entities.{entities_of};
+ghost use Rattle.cedar_json.specs.FaultTexts.{kind_name};
 ghost use Rattle.cedar_json.specs.Questions.{question_of};
 ghost use Rattle.cedar_json.specs.Values.{value_of};
 
-use crate::fault_walks::{Found, entities_found, question_found, value_found};
+use crate::fault_walks::{entities_found, question_found, value_found};
+use crate::found::{Found, MaybeFound};
 use crate::places::{Place, Step, place_at, place_of, pointer_of, syntax_found};
 use crate::reading::{Unread, read_entities, read_question, read_value};
 use json::{Error, Scratch, Value};
@@ -14,6 +16,8 @@ use std::alloc::{AllocError, Global};
 /// What is wrong with a text of JSON.
 #[derive(Clone, Copy, Debug, PartialEq, Eq)]
 pub enum FaultKind {
+    /// It is no UTF-8.
+    NotUtf8,
     /// It begins with a byte order mark.
     Mark,
     /// It is no JSON.
@@ -40,6 +44,30 @@ pub enum FaultKind {
     Missing,
     /// Something else should stand there: an object, or a list.
     Kind,
+}
+
+impl FaultKind {
+    /// How it is written.
+    pub fn name(self) -> &'static str
+        ensures { result.now ≡ kind_name self }
+    {
+        match self {
+            FaultKind::NotUtf8 => "NotUtf8",
+            FaultKind::Mark => "Mark",
+            FaultKind::NotJson => "NotJson",
+            FaultKind::Nesting => "Nesting",
+            FaultKind::TwiceKey => "TwiceKey",
+            FaultKind::Null => "Null",
+            FaultKind::Float => "Float",
+            FaultKind::Range => "Range",
+            FaultKind::Uid => "Uid",
+            FaultKind::Type => "Type",
+            FaultKind::Extn => "Extn",
+            FaultKind::Key => "Key",
+            FaultKind::Missing => "Missing",
+            FaultKind::Kind => "Kind",
+        }
+    }
 }
 
 /// A fault and its place.
@@ -74,25 +102,17 @@ fn fault_of(alloc: Global, found: Found<'_>, place: Place) -> Result<JsonFault, 
     })
 }
 
-/// The first fault of what a text of JSON has.
-fn found_in<'v>(
-    alloc: Global,
-    value: &'v Value<'_>,
-    sought: Sought,
-) -> Result<Found<'v>, AllocError> {
-    let found = match sought {
-        Sought::Value => value_found(alloc, value)?,
-        Sought::Entities => entities_found(alloc, value)?,
-        Sought::Question => question_found(alloc, value)?,
-    };
-    match found {
-        Some(found) => Ok(found),
-        None => Ok(Found::new(alloc, FaultKind::Kind, "the text", "value of its kind")),
+/// The first fault of what a text of JSON has, where a walk finds one.
+fn found_in<'v>(alloc: Global, value: &'v Value<'_>, sought: Sought) -> MaybeFound<'v> {
+    match sought {
+        Sought::Value => value_found(alloc, value),
+        Sought::Entities => entities_found(alloc, value),
+        Sought::Question => question_found(alloc, value),
     }
 }
 
-/// The value of a text, in which keys may come twice; nothing where the text is no JSON.
-fn tree<'a>(
+/// The value of a text, in which keys may come twice; nothing where the text is no JSON. It errs for want of memory.
+pub fn parse_loosely<'a>(
     alloc: Global,
     json: &'a str,
     scratch: &'a mut Scratch,
@@ -104,38 +124,50 @@ fn tree<'a>(
     }
 }
 
-/// The fault of a text that is no JSON.
-fn syntax_fault(alloc: Global, json: &str) -> Result<JsonFault, AllocError> {
-    let (kind, byte) = syntax_found(alloc, json)?;
+/// The fault of a text that is no JSON. It errs for want of memory.
+pub fn syntax_fault(alloc: Global, json: &str) -> Result<JsonFault, AllocError> {
+    let (kind, byte) = if json.starts_with('\u{feff}') {
+        (FaultKind::Mark, 0)
+    } else {
+        syntax_found(alloc, json)?
+    };
     fault_of(alloc, Found::new(alloc, kind, "", ""), place_at(json, byte))
 }
 
-fn value_told(
+/// The fault of bytes that are no UTF-8, at the byte behind the longest text in front. It errs for want of memory.
+pub fn encoding_fault(alloc: Global, json: &[u8]) -> Result<JsonFault, AllocError> {
+    let place = match str::from_utf8(json) {
+        Ok(text) => place_at(text, text.len()),
+        Err(error) => match str::from_utf8(&json[..error.valid_up_to()]) {
+            Ok(front) => place_at(front, front.len()),
+            Err(_) => place_at("", 0),
+        },
+    };
+    fault_of(alloc, Found::new(alloc, FaultKind::NotUtf8, "", ""), place)
+}
+
+/// A fault that a walk found in the value of a text, and its place there; where it found none, the text isn't what is
+/// sought. It errs for want of memory.
+pub fn placed_fault(
     alloc: Global,
     json: &str,
-    value: &Value<'_>,
-    sought: Sought,
+    found: Option<Found<'_>>,
 ) -> Result<JsonFault, AllocError> {
-    let found = found_in(alloc, value, sought)?;
+    let Some(found) = found else {
+        let other = Found::new(alloc, FaultKind::Kind, "the text", "value of its kind");
+        return fault_of(alloc, other, place_at(json, 0));
+    };
     let place = place_of(alloc, json, &found.steps, found.at_key)?;
     fault_of(alloc, found, place)
 }
 
 fn first_fault(alloc: Global, json: &str, sought: Sought) -> Result<JsonFault, AllocError> {
-    if json.starts_with('\u{feff}') {
-        return fault_of(
-            alloc,
-            Found::new(alloc, FaultKind::Mark, "", ""),
-            place_at(json, 0),
-        );
-    }
     let mut scratch = Scratch::new(alloc);
-    let value = match tree(alloc, json, &mut scratch) {
-        Ok(Some(value)) => value,
-        Ok(None) => return syntax_fault(alloc, json),
-        Err(error) => return Err(error),
+    let Some(value) = parse_loosely(alloc, json, &mut scratch)? else {
+        return syntax_fault(alloc, json);
     };
-    value_told(alloc, json, &value, sought)
+    let found = found_in(alloc, &value, sought)?;
+    placed_fault(alloc, json, found)
 }
 
 /// Why a text of JSON says no value; nothing where it says one. It errs for want of memory alone.

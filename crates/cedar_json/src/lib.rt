@@ -5,8 +5,10 @@ mod answers;
 mod bodies;
 mod entities;
 mod entities_written;
-mod fault_walks;
+mod fault_texts;
+pub mod fault_walks;
 mod faults;
+pub mod found;
 mod object_keys;
 mod places;
 mod questions;
@@ -23,8 +25,23 @@ ghost use Rattle.cedar_json.specs.Rows.{Rows};
 
 pub use answers::answer_text;
 pub use bodies::SplitError;
-pub use faults::{FaultKind, JsonFault, entities_fault, question_fault, value_fault};
-pub use reading::{Unread, entity_texts, read_entities, read_question, read_value};
+pub use entities::are_parents;
+pub use entities_written::write_parents_of;
+pub use fault_texts::{faults_text, write_fault, write_fault_list};
+pub use faults::{
+    FaultKind, JsonFault, encoding_fault, entities_fault, parse_loosely, placed_fault,
+    question_fault, syntax_fault, value_fault,
+};
+pub use object_keys::has_only;
+pub use places::Step;
+pub use questions::{write_asked, write_context};
+pub use reading::{
+    Unread, entities_text, entity_texts, holds_texts, parse, question_text, read_entities,
+    read_question, read_value,
+};
+pub use scalars::is_name;
+pub use values::is_record;
+pub use writing::{Members, find, write_key, write_quoted, write_value};
 
 /// What is written for a value is a text of that value.
 pub fn written_values_are_read()

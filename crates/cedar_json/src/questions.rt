@@ -21,7 +21,7 @@ use json::Value;
 use std::alloc::Global;
 
 /// Appends an entity of a question, which may also stand in a string.
-fn write_asked(alloc: Global, out: &mut String, value: &Value<'_>) -> Result<(), Unread>
+pub fn write_asked(alloc: Global, out: &mut String, value: &Value<'_>) -> Result<(), Unread>
     ensures told { Tells result (asked_in (value_view value.now)) }
     ensures written { Appends result out.old out.new (asked_written (value_view value.now)) }
 {
@@ -62,7 +62,8 @@ fn write_part(
     Ok(())
 }
 
-fn write_context(out: &mut String, members: &Members<'_>) -> Result<(), Unread>
+/// Appends the context of a question; where none stands there, an empty one.
+pub fn write_context(out: &mut String, members: &Members<'_>) -> Result<(), Unread>
     ensures told { HasUniqueKeys (object (members_view members.now.items))
         → Tells result (option_map or_empty (if_there context_in (under (codes "context") (members_view members.now.items)))) }
     ensures written { Appends result out.old out.new

@@ -7,7 +7,7 @@ ghost use Rattle.json.specs.Value.{value_view, items_view, members_view};
 ghost use Rattle.cedar_json.specs.Bodies.{SaysBodies, IsUnsplit};
 ghost use Rattle.cedar_json.specs.Entities.{entities_of};
 ghost use Rattle.cedar_json.specs.Questions.{question_of};
-ghost use Rattle.cedar_json.specs.Said.{SaysEntities, SaysQuestion, IsUnsaid, IsUnparsed};
+ghost use Rattle.cedar_json.specs.Said.{SaysEntities, SaysQuestion, IsUnsaid, IsUnparsed, OfEachText};
 ghost use Rattle.cedar_json.specs.Values.{value_of, Says};
 ghost use Rattle.cedar_json.specs.Written.{AreTexts, ItemsAreTexts, MembersAreTexts};
 
@@ -49,7 +49,7 @@ fn is_text(text: &str)
 
 /// A law: what a value holds are texts. It goes through the value, and does nothing there.
 #[cycle(texts)]
-fn holds_texts(value: &Value<'_>)
+pub fn holds_texts(value: &Value<'_>)
     ensures { AreTexts (value_view value.now) }
 {
     match value {
@@ -81,8 +81,14 @@ fn members_hold_texts(members: &Members<'_>)
     }
 }
 
-/// The value of a text in which no object has a key twice.
-fn parse<'a>(alloc: Global, json: &'a str, scratch: &'a mut Scratch) -> Result<Value<'a>, Unread>
+/// The value of a text in which no object has a key twice. It lives as long as the text and the scratch.
+///
+/// `Unsaid` means that the text is no JSON, or that a key stands twice.
+pub fn parse<'a>(
+    alloc: Global,
+    json: &'a str,
+    scratch: &'a mut Scratch,
+) -> Result<Value<'a>, Unread>
     ensures read { IfOk result (λ value. (document json.now ≡ Some (value_view value)) × HasUniqueKeys (value_view value)) }
     ensures unread { IfErr result (IsUnparsed json.now) }
 {
@@ -101,10 +107,7 @@ pub fn read_value(alloc: Global, json: &str) -> Result<String, Unread>
     ensures unsaid { IfErr result (IsUnsaid (value_of json.now)) }
 {
     let mut scratch = Scratch::new(alloc);
-    let value = match parse(alloc, json, &mut scratch) {
-        Ok(value) => value,
-        Err(unread) => return Err(unread),
-    };
+    let value = parse(alloc, json, &mut scratch)?;
     if !is_value(&value) {
         return Err(Unread::Unsaid);
     }
@@ -114,22 +117,40 @@ pub fn read_value(alloc: Global, json: &str) -> Result<String, Unread>
     Ok(text)
 }
 
+/// The Cedar text of the entities that a value of JSON says.
+pub fn entities_text(alloc: Global, value: &Value<'_>) -> Result<String, Unread>
+    requires keys { HasUniqueKeys (value_view value.now) }
+    ensures said { IfOk result (λ text. OfEachText (value_view value.now) (λ json. SaysEntities json (string_bytes text))) }
+    ensures unsaid { IfErr result (λ why. OfEachText (value_view value.now) (λ json. IsUnsaid (entities_of json) why)) }
+{
+    if !is_entities(value) {
+        return Err(Unread::Unsaid);
+    }
+    holds_texts(value);
+    let mut text = String::new(alloc);
+    write_entities(&mut text, value)?;
+    Ok(text)
+}
+
 /// The Cedar text of the entities that a text of JSON says.
 pub fn read_entities(alloc: Global, json: &str) -> Result<String, Unread>
     ensures said { IfOk result (λ text. SaysEntities json.now (string_bytes text)) }
     ensures unsaid { IfErr result (IsUnsaid (entities_of json.now)) }
 {
     let mut scratch = Scratch::new(alloc);
-    let value = match parse(alloc, json, &mut scratch) {
-        Ok(value) => value,
-        Err(unread) => return Err(unread),
-    };
-    if !is_entities(&value) {
-        return Err(Unread::Unsaid);
-    }
-    holds_texts(&value);
+    let value = parse(alloc, json, &mut scratch)?;
+    entities_text(alloc, &value)
+}
+
+/// The Cedar text of the question that a value of JSON asks, as [`read_question`] takes it.
+pub fn question_text(alloc: Global, value: &Value<'_>) -> Result<String, Unread>
+    requires keys { HasUniqueKeys (value_view value.now) }
+    ensures said { IfOk result (λ text. OfEachText (value_view value.now) (λ json. SaysQuestion json (string_bytes text))) }
+    ensures unsaid { IfErr result (λ why. OfEachText (value_view value.now) (λ json. IsUnsaid (question_of json) why)) }
+{
+    holds_texts(value);
     let mut text = String::new(alloc);
-    write_entities(&mut text, &value)?;
+    write_asks(alloc, &mut text, value)?;
     Ok(text)
 }
 
@@ -140,14 +161,8 @@ pub fn read_question(alloc: Global, json: &str) -> Result<String, Unread>
     ensures unsaid { IfErr result (IsUnsaid (question_of json.now)) }
 {
     let mut scratch = Scratch::new(alloc);
-    let value = match parse(alloc, json, &mut scratch) {
-        Ok(value) => value,
-        Err(unread) => return Err(unread),
-    };
-    holds_texts(&value);
-    let mut text = String::new(alloc);
-    write_asks(alloc, &mut text, &value)?;
-    Ok(text)
+    let value = parse(alloc, json, &mut scratch)?;
+    question_text(alloc, &value)
 }
 
 /// The entities that a text of JSON says as Cedar texts of at most `limit` bytes, in order, none split.

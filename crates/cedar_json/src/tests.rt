@@ -393,7 +393,7 @@ fn faults_of_values_are_told(rt: HostRuntime) {
 fn faults_of_entities_are_told(rt: HostRuntime) {
     let cases = [
         ("[]", "none"),
-        ("{}", "Kind  1:1 the text is no list"),
+        ("{}", "Kind  1:1 what stands there is no list"),
         (
             r#"[{"uid": {"type": "U", "id": "a"}, "atrs": {}}]"#,
             "Key /0/atrs 1:36 key \"atrs\" is none of uid, parents, attrs, tags",

@@ -1,12 +1,13 @@
 // Values of JSON as Cedar texts.
 ghost use Rattle.std.specs.Prelude.{◌≡◌, MatchOption, option_map};
+ghost use Rattle.std.specs.List.{list_all};
 ghost use Rattle.std.specs.Str.{chars};
 ghost use Rattle.json.specs.Json.{object};
 ghost use Rattle.json.specs.Value.{value_view, items_view, members_view};
 ghost use Rattle.cedar_json.specs.Appended.{Appends};
 ghost use Rattle.cedar_json.specs.Entities.{under};
 ghost use Rattle.cedar_json.specs.Parts.{key_written, IsNoPair, pair_of, arguments_in};
-ghost use Rattle.cedar_json.specs.Written.{escaped_char, quoted, written, items_written, members_written, uid_text, uid_written, name_written, call_written};
+ghost use Rattle.cedar_json.specs.Written.{is_plain, escaped_char, escaped, quoted, written, items_written, members_written, uid_text, uid_written, name_written, call_written};
 
 use json::Value;
 use std::alloc::AllocError;
@@ -37,15 +38,44 @@ fn write_character(out: &mut String, c: char) -> Result<(), AllocError>
     out.push(c)
 }
 
+/// Whether a character stands between quotes as it is.
+fn is_plain(c: char) -> bool
+    ensures { result ≡ is_plain c }
+{
+    c != '"' && c != '\\' && c != '\r'
+}
+
+fn are_plain(text: &str) -> bool
+    ensures { result ≡ list_all is_plain (chars text.now) }
+{
+    text.chars().all(|c| is_plain(c))
+}
+
 /// Appends a string between quotes.
 pub fn write_quoted(out: &mut String, text: &str) -> Result<(), AllocError>
     ensures { Appends result out.old out.new (quoted text.now) }
 {
     out.push('"')?;
+    write_inside(out, text)?;
+    out.push('"')
+}
+
+fn write_inside(out: &mut String, text: &str) -> Result<(), AllocError>
+    ensures { Appends result out.old out.new (escaped (chars text.now)) }
+{
+    if are_plain(text) {
+        return out.push_str(text);
+    }
+    write_escaped(out, text)
+}
+
+fn write_escaped(out: &mut String, text: &str) -> Result<(), AllocError>
+    ensures { Appends result out.old out.new (escaped (chars text.now)) }
+{
     'characters: for c in text.chars() {
         write_character(out, c)?;
     }
-    out.push('"')
+    Ok(())
 }
 
 /// Appends a key and its colon.

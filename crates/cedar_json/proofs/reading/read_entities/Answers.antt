@@ -1,21 +1,22 @@
-use Rattle.std.proofs.Common.{◌≡◌, true, false, sym, ◌∙◌, arith}
 use Rattle.std.specs.Prelude.{string_bytes}
-use Rattle.std.proofs.lemmas.Str.{IsUtf8-string_bytes}
+use Rattle.std.proofs.lemmas.Result.{err_from_is_err_and}
 use Rattle.json.specs.Value.{value_view}
-use Rattle.cedar_json.proofs.Saying.{entities_said, entities_unsaid, entities_unparsed}
+use Rattle.cedar_json.specs.Entities.{entities_of}
+use Rattle.cedar_json.specs.Said.{SaysEntities, IsUnsaid}
+use Rattle.cedar_json.proofs.Saying.{ok_of_text, err_of_text, entities_unparsed}
 use Rattle.cedar_json.proofs.reading.read_entities.Goals as goal
-
-pub returns-in-Err-clause-unsaid : goal.returns-in-Err-clause-unsaid
-returns-in-Err-clause-unsaid c = entities_unparsed c.args.json.now c.in-Err.unread c.in-Err.ensures.unread
-
-pub returns-then-not-is_entities-clause-unsaid : goal.returns-then-not-is_entities-clause-unsaid
-returns-then-not-is_entities-clause-unsaid c =
-    let no : c.is_entities.result ≡ false = grind arith in
-    entities_unsaid c.args.json.now (value_view c.in-Ok.value) c.in-Ok.ensures.read.0 (sym (c.is_entities.ensures c.in-Ok.ensures.read.1) ∙ no)
 
 pub returns-clause-said : goal.returns-clause-said
 returns-clause-said c =
-    let yes : c.is_entities.result ≡ true = grind arith in
-    entities_said c.args.json.now (string_bytes c.new-text.result) (string_bytes c.write_entities.new.out) (value_view c.in-Ok.value) c.in-Ok.ensures.read.0
-    (sym (c.is_entities.ensures c.in-Ok.ensures.read.1) ∙ yes)
-    c.holds_texts.ensures (IsUtf8-string_bytes c.write_entities.new.out) (c.new-text.ensures.bytes, c.in_ok-write_entities.ensures)
+    ok_of_text (λ text json. SaysEntities json (string_bytes text)) c.entities_text.result c.args.json.now (value_view c.in_ok-value.value) c.in_ok-value.ensures.read.0
+    c.entities_text.ensures.said
+
+pub returns-clause-unsaid : goal.returns-clause-unsaid
+returns-clause-unsaid c =
+    err_of_text (λ why json. IsUnsaid (entities_of json) why) c.entities_text.result c.args.json.now (value_view c.in_ok-value.value) c.in_ok-value.ensures.read.0
+    c.entities_text.ensures.unsaid
+
+pub returns-in_err-value-clause-unsaid : goal.returns-in_err-value-clause-unsaid
+returns-in_err-value-clause-unsaid c =
+    let p = err_from_is_err_and c.from_residual.result c.from_residual.ensures.1 in
+    rw (p.1, p.2) (entities_unparsed c.args.json.now c.in_err-value.field-0.0 c.in_err-value.ensures.unread)

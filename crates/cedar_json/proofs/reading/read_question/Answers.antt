@@ -1,14 +1,22 @@
 use Rattle.std.specs.Prelude.{string_bytes}
-use Rattle.std.proofs.lemmas.Str.{IsUtf8-string_bytes}
+use Rattle.std.proofs.lemmas.Result.{err_from_is_err_and}
 use Rattle.json.specs.Value.{value_view}
-use Rattle.cedar_json.proofs.Saying.{question_said, question_unparsed}
+use Rattle.cedar_json.specs.Questions.{question_of}
+use Rattle.cedar_json.specs.Said.{SaysQuestion, IsUnsaid}
+use Rattle.cedar_json.proofs.Saying.{ok_of_text, err_of_text, question_unparsed}
 use Rattle.cedar_json.proofs.reading.read_question.Goals as goal
-
-pub returns-in-Err-clause-unsaid : goal.returns-in-Err-clause-unsaid
-returns-in-Err-clause-unsaid c = question_unparsed c.args.json.now c.in-Err.unread c.in-Err.ensures.unread
 
 pub returns-clause-said : goal.returns-clause-said
 returns-clause-said c =
-    question_said c.args.json.now (string_bytes c.new-text.result) (string_bytes c.write_asks.new.out) (value_view c.in-Ok.value) c.in-Ok.ensures.read.0
-    (c.in_ok-write_asks.ensures.told c.in-Ok.ensures.read.1) c.holds_texts.ensures (IsUtf8-string_bytes c.write_asks.new.out)
-    (c.new-text.ensures.bytes, c.in_ok-write_asks.ensures.written)
+    ok_of_text (λ text json. SaysQuestion json (string_bytes text)) c.question_text.result c.args.json.now (value_view c.in_ok-value.value) c.in_ok-value.ensures.read.0
+    c.question_text.ensures.said
+
+pub returns-clause-unsaid : goal.returns-clause-unsaid
+returns-clause-unsaid c =
+    err_of_text (λ why json. IsUnsaid (question_of json) why) c.question_text.result c.args.json.now (value_view c.in_ok-value.value) c.in_ok-value.ensures.read.0
+    c.question_text.ensures.unsaid
+
+pub returns-in_err-value-clause-unsaid : goal.returns-in_err-value-clause-unsaid
+returns-in_err-value-clause-unsaid c =
+    let p = err_from_is_err_and c.from_residual.result c.from_residual.ensures.1 in
+    rw (p.1, p.2) (question_unparsed c.args.json.now c.in_err-value.field-0.0 c.in_err-value.ensures.unread)

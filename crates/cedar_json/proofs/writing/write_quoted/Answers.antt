@@ -1,31 +1,18 @@
--- What is written so far is the characters that were taken; at the end these are all.
-use Rattle.std.proofs.Common.{◌≡◌, ◌∷◌, [], ◌++◌, ap, sym, ◌∙◌}
-use Rattle.std.specs.Prelude.{string_bytes, encode_utf8_all}
+use Rattle.std.proofs.Common.{◌∷◌, []}
+use Rattle.std.specs.Prelude.{string_bytes}
 use Rattle.std.specs.Str.{chars}
-use Rattle.std.proofs.lemmas.List.{map-id}
-use Rattle.std.proofs.lemmas.Iterator.{YieldsList-from_chars}
-use Rattle.std.proofs.lemmas.Iterator.Consumers.{YieldsList-end}
 use Rattle.cedar_grammar.specs.Tokens.{quote}
-use Rattle.cedar_json.specs.Written.{escaped, escaped_char}
-use Rattle.cedar_json.proofs.Appending.{grown, on_grown, on_pushed, on_same, escaped_more}
+use Rattle.cedar_json.specs.Written.{escaped}
+use Rattle.cedar_json.proofs.Appending.{grown, pushed, on_grown, on_pushed}
 use Rattle.cedar_json.proofs.writing.write_quoted.Goals as goal
 
 pub returns : goal.returns
 returns c =
-    let all = YieldsList-end (YieldsList-from_chars c.args.text.now c.utf8.text cc) c.characters.yielded _ c.characters.yielded_by _ _ c.in-None.is c.next.ensures.steps in
-    let same : c.characters.yielded ≡ chars c.args.text.now = sym (map-id c.characters.yielded) ∙ all.0 in
-    let r = c.push-2.result in
     let a = string_bytes c.args.out.now in
-    let b = string_bytes c.characters.out in
-    let d = string_bytes c.push-2.new.self in
-    on_same r a d (quote ∷ (escaped c.characters.yielded ++ quote ∷ [])) (quote ∷ (escaped (chars c.args.text.now) ++ quote ∷ []))
-    (ap (λ cs. quote ∷ (escaped cs ++ quote ∷ [])) same)
-    (on_grown r a b d (quote ∷ escaped c.characters.yielded) (quote ∷ []) c.characters.invariant (on_pushed r b d quote c.push-2.ensures.bytes))
-
-pub characters-preserved : goal.characters-preserved
-characters-preserved c =
-    let a = string_bytes c.args.out.now in
-    let d = string_bytes c.write_character.new.out in
-    grown a (string_bytes c.characters.out) d (quote ∷ escaped c.characters.yielded)
-    (escaped_char c.in-Some.c) c.characters.invariant c.in_ok-write_character.ensures
-    ∙ ap (λ cs. a ++ encode_utf8_all (quote ∷ cs)) (sym (escaped_more c.characters.yielded c.in-Some.c))
+    let b = string_bytes c.push.new.self in
+    let d = string_bytes c.write_inside.new.out in
+    let e = string_bytes c.push-2.new.self in
+    let s = escaped (chars c.args.text.now) in
+    on_grown c.push-2.result a d e (quote ∷ s) (quote ∷ [])
+    (grown a b d (quote ∷ []) s (pushed a b quote c.in_ok-push.ensures.bytes) c.in_ok-write_inside.ensures)
+    (on_pushed c.push-2.result d e quote c.push-2.ensures.bytes)

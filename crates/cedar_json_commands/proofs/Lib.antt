@@ -1,0 +1,9 @@
+pub mod Putting
+pub mod Standing
+pub mod Apart
+pub mod PartialQuestionTexts
+pub mod LinkTexts
+pub mod OtherTexts
+pub mod Whole
+pub mod Saying
+pub mod Bodies

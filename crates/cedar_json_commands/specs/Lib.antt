@@ -1,0 +1,9 @@
+pub mod PartialQuestions
+pub mod PartialQuestionsWritten
+pub mod Links
+pub mod LinksWritten
+pub mod Others
+pub mod Said
+pub mod Verbs
+pub mod Laws
+pub mod Rows
