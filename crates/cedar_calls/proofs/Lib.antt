@@ -1,0 +1,4 @@
+mod Steps
+mod Questions
+mod Doing
+mod Commanding
