@@ -1,0 +1,8 @@
+pub mod Swapping
+pub mod Given
+pub mod LinkObjects
+pub mod Renaming
+pub mod Placed
+pub mod Replies
+pub mod Loads
+pub mod OneNamed

@@ -1,0 +1,9 @@
+pub mod Giving
+pub mod Links
+pub mod Loading
+pub mod NameLists
+pub mod Named
+pub mod Placed
+pub mod Sessions
+pub mod Steps
+pub mod Unreading
