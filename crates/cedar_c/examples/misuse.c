@@ -2,28 +2,16 @@
    into the middle of another; run as it is, under valgrind, and with `threads` under helgrind. */
 #define _POSIX_C_SOURCE 200809L
 #include "cedar.h"
+#include "misuse.h"
 
 #include <pthread.h>
 #include <stdio.h>
 #include <stdlib.h>
 #include <string.h>
 
-enum { KIB = 1024, CALLS = 600 };
+enum { CALLS = 600 };
 
 static const char any[] = "permit(principal, action, resource);";
-static const char alice[] = "permit(principal == User::\"alice\", action, resource);";
-static const char question[] = "{principal: User::\"alice\"}";
-
-static int wrong;
-
-static void want(int line, const char *what, int found, int wanted) {
-    if (found != wanted) {
-        fprintf(stderr, "misuse.c:%d: %s is %d (%s), and not %d\n", line, what, found, cedar_status_text(found), wanted);
-        __atomic_store_n(&wrong, 1, __ATOMIC_SEQ_CST);
-    }
-}
-
-#define WANT(call, wanted) want(__LINE__, #call, (int)(call), (int)(wanted))
 
 /* What malloc calls before it gives anything. */
 static void (*inside)(void);
@@ -39,38 +27,24 @@ void *__wrap_malloc(size_t size) {
     return __real_malloc(size);
 }
 
-static enum cedar_status give(cedar_session *session, const char *verb, const char *body) {
-    return cedar_command(session, verb, strlen(verb), body, strlen(body));
-}
-
-static enum cedar_status answer(cedar_session *session) {
-    char line[256];
+static enum cedar_status why(cedar_session *session) {
+    char list[256];
     size_t written;
-    return cedar_answer(session, line, sizeof line, &written);
+    return cedar_why(session, "ask", 3, "3", 1, list, sizeof list, &written);
 }
 
 /* Every call of a handle answers so. */
 static void want_all(int line, cedar_session *session, enum cedar_status wanted) {
     want(line, "cedar_command", give(session, "ask", "{}"), wanted);
     want(line, "cedar_answer", answer(session), wanted);
+    want(line, "cedar_why", why(session), wanted);
+    want(line, "cedar_command_json", give_json(session, "ask-partial", "{}"), wanted);
+    want(line, "cedar_answer_json", answer_json(session), wanted);
     want(line, "cedar_decision", cedar_decision(session), CEDAR_DECIDED_NOTHING);
     want(line, "cedar_close", cedar_close(session), wanted);
 }
 
 #define WANT_ALL(session, wanted) want_all(__LINE__, session, wanted)
-
-/* The session answers as it did. */
-static void want_session(int line, cedar_session *session) {
-    want(line, "ask", give(session, "ask", question), CEDAR_DONE);
-    want(line, "cedar_decision", cedar_decision(session), CEDAR_DECIDED_ALLOW);
-}
-
-#define WANT_SESSION(session) want_session(__LINE__, session)
-
-static void opened(cedar_session *session) {
-    WANT(cedar_open(session, CEDAR_DEPTH), CEDAR_DONE);
-    WANT(give(session, "load", alice), CEDAR_DONE);
-}
 
 static void no_handles(void) {
     cedar_session garbage;
@@ -169,6 +143,17 @@ static void texts(void) {
     WANT(cedar_answer(&session, &written, sizeof written, &written), CEDAR_MISUSE);
     WANT(cedar_answer(&session, &session, sizeof session, &written), CEDAR_MISUSE);
     WANT(cedar_answer(&session, room, sizeof room, within), CEDAR_MISUSE);
+    WANT(cedar_why(&session, "load", 4, NULL, 0, room, sizeof room, &written), CEDAR_DONE);
+    WANT(written == 2 && memcmp(room, "[]", 2) == 0, 1);
+    WANT(cedar_why(&session, "load", 4, NULL, 0, NULL, 0, &written), CEDAR_NO_ROOM);
+    WANT(written, 2);
+    WANT(cedar_why(&session, "lode", 4, "", 0, room, sizeof room, &written), CEDAR_NO_VERB);
+    WANT(written, 0);
+    WANT(cedar_why(&session, "load", 4, room, sizeof room, NULL, 0, &written), CEDAR_TOO_LONG);
+    WANT(cedar_why(&session, "load", 4, NULL, 5, room, sizeof room, &written), CEDAR_MISUSE);
+    WANT(cedar_why(&session, "load", 4, room, 8, room + 4, 8, &written), CEDAR_MISUSE);
+    WANT(cedar_why(&session, room, 4, "", 0, room, 8, &written), CEDAR_MISUSE);
+    WANT(cedar_why(&session, "load", 4, "", 0, room, sizeof room, within), CEDAR_MISUSE);
     WANT_SESSION(&session);
     WANT(cedar_close(&session), CEDAR_DONE);
 }
@@ -207,6 +192,13 @@ static void busy_ones(void) {
     WANT(answer(&busy), CEDAR_DONE);
     inside = NULL;
     WANT(calls_inside > 0, 1);
+    calls_inside = 0;
+    inside = call_busy;
+    WANT(give_json(&busy, "ask-partial", json_question), CEDAR_DONE);
+    WANT(calls_inside, 1);
+    inside = call_busy;
+    WANT(answer_json(&busy), CEDAR_DONE);
+    inside = NULL;
     WANT_SESSION(&busy);
     WANT(cedar_close(&busy), CEDAR_DONE);
 }
@@ -253,6 +245,10 @@ static void *elsewhere(void *unused) {
         enum cedar_status status = give(&shared, "ask", "{principal: User::\"mallory\"}");
         WANT(status == CEDAR_OTHER_THREAD || status == CEDAR_BUSY, 1);
         status = answer(&shared);
+        WANT(status == CEDAR_OTHER_THREAD || status == CEDAR_BUSY, 1);
+        status = give_json(&shared, "ask-partial", "{}");
+        WANT(status == CEDAR_OTHER_THREAD || status == CEDAR_BUSY, 1);
+        status = answer_json(&shared);
         WANT(status == CEDAR_OTHER_THREAD || status == CEDAR_BUSY, 1);
         status = cedar_close(&shared);
         WANT(status == CEDAR_OTHER_THREAD || status == CEDAR_BUSY, 1);

@@ -109,9 +109,14 @@ static uintptr_t lowest_of_stack(void) {
     return 0;
 }
 
-/* Whether a limit of depth has the stack that it takes. A call on a stack that isn't the thread's own isn't looked at. */
+/* Whether so many bytes of a stack are left. A call on a stack that isn't the thread's own isn't looked at. */
+static int has_left(uintptr_t lowest, size_t count) {
+    return lowest == 0 || (uintptr_t)__builtin_frame_address(0) - lowest >= count;
+}
+
+/* Whether a limit of depth has the stack that it takes. */
 static int has_stack(uintptr_t lowest, uint32_t depth) {
-    return lowest == 0 || (uintptr_t)__builtin_frame_address(0) - lowest >= CEDAR_STACK(depth);
+    return has_left(lowest, CEDAR_STACK(depth));
 }
 
 static enum cedar_status look_at_depth(uintptr_t lowest, uint32_t depth) {
@@ -201,27 +206,59 @@ enum cedar_status cedar_new_standard(cedar_session **session, uint32_t depth) {
     return new_by(session, depth, cedar_proved_open_standard);
 }
 
+/* Whether a handle that is held may be given these texts. */
+static enum cedar_status look_at_texts(const cedar_session *session, const void *verb, size_t verb_length, const void *body, size_t body_length) {
+    if (!is_apart_text(session, verb, verb_length) || !is_apart_text(session, body, body_length)) {
+        return CEDAR_MISUSE;
+    }
+    return has_stack(get(session, STACK), (uint32_t)get(session, DEPTH)) ? CEDAR_DONE : CEDAR_TOO_DEEP;
+}
+
+/* Whether a handle that is held may be given a command. */
+static enum cedar_status look_at_command(const cedar_session *session, const void *verb, size_t verb_length, const void *body, size_t body_length) {
+    return body_length > CEDAR_BODY_LIMIT ? CEDAR_TOO_LONG : look_at_texts(session, verb, verb_length, body, body_length);
+}
+
+/* The status that a proved function answers to a verb and a body that isn't too long. */
+static enum cedar_status of_command(uint8_t done) {
+    return done == PROVED_NO_COMMAND ? CEDAR_NO_VERB : (enum cedar_status)done;
+}
+
 enum cedar_status cedar_command(cedar_session *session, const void *verb, size_t verb_length, const void *body, size_t body_length) {
     enum state was;
     enum cedar_status status = hold_open(session, &was);
     if (status != CEDAR_DONE) {
         return status;
     }
-    if (body_length > CEDAR_BODY_LIMIT) {
-        status = CEDAR_TOO_LONG;
-    } else if (!is_apart_text(session, verb, verb_length) || !is_apart_text(session, body, body_length)) {
-        status = CEDAR_MISUSE;
-    } else if (!has_stack(get(session, STACK), (uint32_t)get(session, DEPTH))) {
-        status = CEDAR_TOO_DEEP;
-    } else {
-        uint8_t done = cedar_proved_command(&session->at, text_at(verb), verb_length, text_at(body), body_length);
-        status = done == PROVED_NO_COMMAND ? CEDAR_NO_VERB : (enum cedar_status)done;
+    status = look_at_command(session, verb, verb_length, body, body_length);
+    if (status == CEDAR_DONE) {
+        status = of_command(cedar_proved_command(&session->at, text_at(verb), verb_length, text_at(body), body_length));
     }
     let_go(session, was);
     return status;
 }
 
-enum cedar_status cedar_answer(cedar_session *session, void *output, size_t output_length, size_t *written) {
+enum cedar_status cedar_command_json(cedar_session *session, const void *verb, size_t verb_length, const void *json, size_t json_length) {
+    enum state was;
+    enum cedar_status status = hold_open(session, &was);
+    if (status != CEDAR_DONE) {
+        return status;
+    }
+    status = look_at_texts(session, verb, verb_length, json, json_length);
+    if (status == CEDAR_DONE && !has_left(get(session, STACK), CEDAR_JSON_STACK)) {
+        status = CEDAR_TOO_DEEP;
+    }
+    if (status == CEDAR_DONE) {
+        status = of_command(cedar_proved_command_json(&session->at, text_at(verb), verb_length, text_at(json), json_length));
+    }
+    let_go(session, was);
+    return status;
+}
+
+/* The proved function that writes what a handle tells. */
+typedef uint8_t teller(void **at, uint8_t *output, size_t output_length, size_t *written);
+
+static enum cedar_status answer_by(cedar_session *session, void *output, size_t output_length, size_t *written, teller *proved_answer) {
     if (!is_output(output, output_length, written) || !leaves(session, sizeof *session, output, output_length, written)) {
         return CEDAR_MISUSE;
     }
@@ -229,9 +266,51 @@ enum cedar_status cedar_answer(cedar_session *session, void *output, size_t outp
     enum state was;
     enum cedar_status status = hold_open(session, &was);
     if (status == CEDAR_DONE) {
-        status = (enum cedar_status)cedar_proved_answer(&session->at, output_at(output), output_length, written);
+        status = (enum cedar_status)proved_answer(&session->at, output_at(output), output_length, written);
         let_go(session, was);
     }
+    return status;
+}
+
+enum cedar_status cedar_answer(cedar_session *session, void *output, size_t output_length, size_t *written) {
+    return answer_by(session, output, output_length, written, cedar_proved_answer);
+}
+
+enum cedar_status cedar_answer_json(cedar_session *session, void *output, size_t output_length, size_t *written) {
+    return answer_by(session, output, output_length, written, cedar_proved_answer_json);
+}
+
+enum cedar_status cedar_why_json(const void *verb, size_t verb_length, const void *json, size_t json_length, void *output,
+                                 size_t output_length, size_t *written) {
+    if (!is_text(verb, verb_length) || !is_text(json, json_length) || !is_output(output, output_length, written) ||
+        !leaves(verb, verb_length, output, output_length, written) || !leaves(json, json_length, output, output_length, written)) {
+        return CEDAR_MISUSE;
+    }
+    *written = 0;
+    if (!has_left(lowest_of_stack(), CEDAR_JSON_STACK)) {
+        return CEDAR_TOO_DEEP;
+    }
+    return of_command(cedar_proved_why_json(text_at(verb), verb_length, text_at(json), json_length, output_at(output), output_length, written));
+}
+
+enum cedar_status cedar_why(cedar_session *session, const void *verb, size_t verb_length, const void *body, size_t body_length,
+                            void *output, size_t output_length, size_t *written) {
+    if (!is_output(output, output_length, written) || !leaves(session, sizeof *session, output, output_length, written) ||
+        !leaves(verb, verb_length, output, output_length, written) || !leaves(body, body_length, output, output_length, written)) {
+        return CEDAR_MISUSE;
+    }
+    *written = 0;
+    enum state was;
+    enum cedar_status status = hold_open(session, &was);
+    if (status != CEDAR_DONE) {
+        return status;
+    }
+    status = look_at_command(session, verb, verb_length, body, body_length);
+    if (status == CEDAR_DONE) {
+        status = of_command(cedar_proved_why(&session->at, text_at(verb), verb_length, text_at(body), body_length, output_at(output),
+                                             output_length, written));
+    }
+    let_go(session, was);
     return status;
 }
 

@@ -13,7 +13,7 @@ extern "C" {
    second number have the same calls. */
 #define CEDAR_VERSION "0.2.0"
 #define CEDAR_VERSION_MAJOR 0
-#define CEDAR_VERSION_MINOR 1
+#define CEDAR_VERSION_MINOR 2
 
 #ifdef __GNUC__
 #define CEDAR_API __attribute__((visibility("default")))
@@ -32,6 +32,9 @@ extern "C" {
 
 /* How many bytes of a stack a limit of depth takes, below the call. */
 #define CEDAR_STACK(depth) (40960 + (size_t)(depth) * 7680)
+
+/* How many bytes of a stack JSON takes, below the call, however low the limit of depth is. */
+#define CEDAR_JSON_STACK 131072
 
 /* What a call answers. At any but CEDAR_DONE and CEDAR_FAULT nothing is done, and nothing is written but *written. */
 enum cedar_status {
@@ -55,7 +58,8 @@ enum cedar_status {
     CEDAR_BUSY = 10,
     /* The handle is open on another thread, where it stays. */
     CEDAR_OTHER_THREAD = 11,
-    /* The limit of depth is above CEDAR_DEPTH_MAX, or this thread's stack has less than CEDAR_STACK of it left. */
+    /* The limit of depth is above CEDAR_DEPTH_MAX, or this thread's stack has less than CEDAR_STACK of it, or of JSON less than
+       CEDAR_JSON_STACK, left. */
     CEDAR_TOO_DEEP = 12,
     /* The text isn't UTF-8. */
     CEDAR_NOT_UTF8 = 13,
@@ -113,6 +117,35 @@ CEDAR_API enum cedar_status cedar_answer(cedar_session *session, void *output, s
 
 /* What the last command decided, read off the line that answers it. Only CEDAR_DECIDED_ALLOW allows anything. */
 CEDAR_API enum cedar_decided cedar_decision(cedar_session *session);
+
+/* Writes why the session refuses the command of a verb and a body, to the front of the output: a JSON list, of each
+   fault an object with `line`, `column`, `endLine` and `endColumn`, from 1, or null where no place is known, the strings
+   `kind` and `message`, and `expected` and `help`, strings or null. It is empty where the command isn't refused, and where
+   no place of the body shows the reason. The command isn't done, and the session stays as it is. *written says how long the
+   list is; no zero byte ends it.
+   CEDAR_DONE, CEDAR_NO_MEMORY, CEDAR_NO_ROOM, CEDAR_NO_VERB, CEDAR_TOO_LONG, CEDAR_NOT_OPEN, CEDAR_TOO_DEEP. */
+CEDAR_API enum cedar_status cedar_why(cedar_session *session, const void *verb, size_t verb_length, const void *body, size_t body_length,
+                                      void *output, size_t output_length, size_t *written);
+
+/* Does the command of a verb of which JSON says the body (docs/JSON.md), as cedar_command does one of which a Cedar text does:
+   `link`, `unlink`, `remove-static`, `remove-template`, `add`, `put`, `remove`, `ask`, `ask-partial` or `tell`. What it is answered
+   stays with the handle: cedar_answer writes its line, `refused Json` where the JSON says no such body, and `refused Long` where it
+   says one that is longer than CEDAR_BODY_LIMIT as a Cedar text.
+   CEDAR_DONE, also where the command is refused; CEDAR_NO_VERB, CEDAR_NOT_OPEN, CEDAR_TOO_DEEP. */
+CEDAR_API enum cedar_status cedar_command_json(cedar_session *session, const void *verb, size_t verb_length, const void *json, size_t json_length);
+
+/* Writes the answer to the last command as JSON, to the front of the output, where that was a question, by text or by JSON, which
+   was accepted; else nothing: `{"decision":"allow","diagnostics":{"reason":["policy0"],"errors":[]}}`, with null for a decision that is
+   open. *written says how long it is; no zero byte ends it. The session stays as it is: the call may be repeated.
+   CEDAR_DONE, CEDAR_NO_MEMORY, CEDAR_NO_ROOM, CEDAR_NOT_OPEN. */
+CEDAR_API enum cedar_status cedar_answer_json(cedar_session *session, void *output, size_t output_length, size_t *written);
+
+/* Writes why JSON says no body of the command of a verb, to the front of the output: a JSON list of one object, which has the first
+   fault of the JSON by `line` and `column`, numbers from 1, and the strings `pointer`, `kind` and `message`. It is empty where the
+   JSON says such a body, whatever a session does with it. *written says how long the list is; no zero byte ends it.
+   CEDAR_DONE, CEDAR_NO_MEMORY, CEDAR_NO_ROOM, CEDAR_NO_VERB, CEDAR_TOO_DEEP. */
+CEDAR_API enum cedar_status cedar_why_json(const void *verb, size_t verb_length, const void *json, size_t json_length, void *output,
+                                           size_t output_length, size_t *written);
 
 /* Closes a handle, and gives back all memory that its session took. It may be opened again.
    CEDAR_DONE, CEDAR_NOT_OPEN. */

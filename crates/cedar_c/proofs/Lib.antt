@@ -1,2 +1,3 @@
 mod Handles
 mod Values
+mod Lent
