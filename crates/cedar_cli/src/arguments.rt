@@ -1,8 +1,9 @@
 // The command line: the words behind the program's name, read by the table of `words`.
 
+use crate::lacks::lack_of;
 use crate::nearest::Nearest;
-use crate::pages;
 use crate::words::{Choice, FLAGS, Flag, NAMES_OF_WORDS, Task, WORDS, WORDS_OF_OTHERS, Word};
+use crate::{USAGE_FAULT, pages};
 use std::alloc::{AllocError, Global};
 use std::fmt;
 use thiserror::Error;
@@ -30,9 +31,29 @@ pub(crate) struct Options<'a> {
     pub(crate) list: bool,
     pub(crate) quiet: bool,
     pub(crate) coverage: bool,
+    /// Whether what is told, or answered, is JSON.
+    pub(crate) json: bool,
     /// The names of the tests to run, and all where there is none.
     pub(crate) only: Vec<&'a str>,
     pub(crate) junit: Option<&'a str>,
+    /// The files of policies.
+    pub(crate) policies: Vec<&'a str>,
+    /// The files of entities, as JSON.
+    pub(crate) entities: Vec<&'a str>,
+    pub(crate) links: Option<&'a str>,
+    pub(crate) verbose: bool,
+    pub(crate) asked: AskedBy<'a>,
+}
+
+/// By what a request is given: by a file of it, or by its parts.
+#[derive(Clone, Copy, Debug)]
+pub(crate) struct AskedBy<'a> {
+    pub(crate) request: Option<&'a str>,
+    pub(crate) principal: Option<&'a str>,
+    pub(crate) action: Option<&'a str>,
+    pub(crate) resource: Option<&'a str>,
+    /// The file of its context.
+    pub(crate) context: Option<&'a str>,
 }
 
 /// Why a command line asks for nothing.
@@ -62,6 +83,14 @@ pub(crate) enum Fault<'a> {
     InputTwice,
     #[error("session takes no file: {0}")]
     FileOfSession(&'a str),
+    #[error("option {0} is missing")]
+    NoOption(&'static str),
+    #[error("options {0} and {1} exclude each other")]
+    Both(&'static str, &'static str),
+    #[error("each file stands behind an option: {0}")]
+    FileAlone(&'a str),
+    #[error("one expression is to be given")]
+    NoExpression,
     #[error("{0}")]
     Memory(#[from(alloc)] AllocError),
 }
@@ -84,6 +113,7 @@ impl fmt::Display for Meant {
 pub(crate) struct Refused<'a> {
     pub(crate) fault: Fault<'a>,
     pub(crate) usage: &'static str,
+    pub(crate) status: u8,
 }
 
 /// Reads the words behind the program's name. What shows a page ends the reading, as a fault does.
@@ -128,8 +158,20 @@ impl<'a> Reader<'a> {
                 list: false,
                 quiet: false,
                 coverage: false,
+                json: false,
                 only: Vec::new(alloc),
                 junit: None,
+                policies: Vec::new(alloc),
+                entities: Vec::new(alloc),
+                links: None,
+                verbose: false,
+                asked: AskedBy {
+                    request: None,
+                    principal: None,
+                    action: None,
+                    resource: None,
+                    context: None,
+                },
             },
             operands: Vec::new(alloc),
         }
@@ -211,7 +253,10 @@ impl<'a> Reader<'a> {
             Choice::List => self.options.list = true,
             Choice::Quiet => self.options.quiet = true,
             Choice::Coverage => self.options.coverage = true,
-            Choice::Only | Choice::Junit => self.waiting = Some(flag),
+            Choice::Json => self.options.json = true,
+            Choice::Verbose => self.options.verbose = true,
+            // (the others have a value)
+            _ => self.waiting = Some(flag),
         }
         Ok(())
     }
@@ -219,8 +264,15 @@ impl<'a> Reader<'a> {
     fn choose_value(&mut self, flag: &'static Flag, value: &'a str) -> Result<(), Fault<'a>> {
         match flag.choice {
             Choice::Only => self.options.only.push(value)?,
-            _ if self.options.junit.is_some() => return Err(Fault::Twice(flag.name)),
-            _ => self.options.junit = Some(value),
+            Choice::Policies => self.options.policies.push(value)?,
+            Choice::Entities => self.options.entities.push(value)?,
+            Choice::Links => set_once(&mut self.options.links, flag, value)?,
+            Choice::Request => set_once(&mut self.options.asked.request, flag, value)?,
+            Choice::Principal => set_once(&mut self.options.asked.principal, flag, value)?,
+            Choice::Action => set_once(&mut self.options.asked.action, flag, value)?,
+            Choice::Resource => set_once(&mut self.options.asked.resource, flag, value)?,
+            Choice::Context => set_once(&mut self.options.asked.context, flag, value)?,
+            _ => set_once(&mut self.options.junit, flag, value)?,
         }
         Ok(())
     }
@@ -233,11 +285,15 @@ impl<'a> Reader<'a> {
     }
 
     fn refuse(self, fault: Fault<'a>) -> Refused<'a> {
-        let usage = match self.word {
-            Some(word) => word.usage,
-            None => pages::USAGE,
+        let (usage, status) = match self.word {
+            Some(word) => (word.usage, word.usage_status),
+            None => (pages::USAGE, USAGE_FAULT),
         };
-        Refused { fault, usage }
+        Refused {
+            fault,
+            usage,
+            status,
+        }
     }
 
     fn finish(self) -> Result<Asked<'a>, Refused<'a>> {
@@ -266,45 +322,21 @@ impl<'a> Reader<'a> {
         if let Some(flag) = self.waiting {
             return Some(Fault::NoValue(flag.name, flag.value.unwrap_or("")));
         }
-        if self.operands.iter().filter(|it| **it == "-").count() > 1 {
-            return Some(Fault::InputTwice);
-        }
-        let word = self.word?;
-        match word.task {
-            Task::Check => None,
-            Task::Test => self.lack_of_test(),
-            Task::Explain => self.lack_of_explain(),
-            Task::Session => match self.operands.first() {
-                Some(operand) => Some(Fault::FileOfSession(*operand)),
-                None => None,
-            },
-        }
+        lack_of(self.word?, &self.options, self.operands.as_slice())
     }
+}
 
-    fn lack_of_test(&self) -> Option<Fault<'a>> {
-        if self.operands.is_empty() {
-            return Some(Fault::NoFile);
-        }
-        if !self.options.list {
-            return None;
-        }
-        if self.options.junit.is_some() {
-            return Some(Fault::ListWith("--junit"));
-        }
-        if self.options.coverage {
-            return Some(Fault::ListWith("--coverage"));
-        }
-        None
+/// Sets what an option gives, which may stand once.
+fn set_once<'a>(
+    place: &mut Option<&'a str>,
+    flag: &'static Flag,
+    value: &'a str,
+) -> Result<(), Fault<'a>> {
+    if place.is_some() {
+        return Err(Fault::Twice(flag.name));
     }
-
-    fn lack_of_explain(&self) -> Option<Fault<'a>> {
-        match self.operands.as_slice() {
-            [_, _, _] => None,
-            [operand] if place_named(*operand).is_none() => Some(Fault::NoLine(*operand)),
-            [_] => None,
-            _ => Some(Fault::NoQuestion),
-        }
-    }
+    *place = Some(value);
+    Ok(())
 }
 
 /// Whether a word is an option: `-` and `-:LINE` name standard input.

@@ -1,6 +1,6 @@
 // The words and the options of the command line, as data.
 
-use crate::pages;
+use crate::{REFUSED, USAGE_FAULT, pages};
 
 /// What a run does.
 #[derive(Clone, Copy, Debug, PartialEq, Eq)]
@@ -9,6 +9,8 @@ pub(crate) enum Task {
     Test,
     Explain,
     Session,
+    Authorize,
+    Evaluate,
 }
 
 /// What an option asks for.
@@ -23,6 +25,16 @@ pub(crate) enum Choice {
     Quiet,
     Junit,
     Coverage,
+    Json,
+    Policies,
+    Links,
+    Entities,
+    Request,
+    Principal,
+    Action,
+    Resource,
+    Context,
+    Verbose,
 }
 
 /// An option: its names, and what stands behind it, if anything does.
@@ -50,6 +62,8 @@ pub(crate) struct Word {
     pub(crate) task: Task,
     pub(crate) flags: &'static [Flag],
     pub(crate) usage: &'static str,
+    /// How a run ends whose words ask for nothing.
+    pub(crate) usage_status: u8,
     pub(crate) page: &'static str,
 }
 
@@ -75,12 +89,20 @@ pub(crate) const FLAGS: &[Flag] = &[
     },
 ];
 
-const FLAGS_OF_CHECK: &[Flag] = &[Flag {
-    name: "--each",
-    short: None,
-    value: None,
-    choice: Choice::Each,
-}];
+const FLAGS_OF_CHECK: &[Flag] = &[
+    Flag {
+        name: "--each",
+        short: None,
+        value: None,
+        choice: Choice::Each,
+    },
+    Flag {
+        name: "--json",
+        short: None,
+        value: None,
+        choice: Choice::Json,
+    },
+];
 
 const FLAGS_OF_TEST: &[Flag] = &[
     Flag {
@@ -113,10 +135,102 @@ const FLAGS_OF_TEST: &[Flag] = &[
         value: None,
         choice: Choice::Coverage,
     },
+    Flag {
+        name: "--json",
+        short: None,
+        value: None,
+        choice: Choice::Json,
+    },
+];
+
+/// The option of a word that has no other.
+const FLAGS_OF_JSON: &[Flag] = &[Flag {
+    name: "--json",
+    short: None,
+    value: None,
+    choice: Choice::Json,
+}];
+
+const FLAGS_OF_AUTHORIZE: &[Flag] = &[
+    Flag {
+        name: "--policies",
+        short: Some("-p"),
+        value: Some("FILE"),
+        choice: Choice::Policies,
+    },
+    Flag {
+        name: "--links",
+        short: Some("-k"),
+        value: Some("FILE"),
+        choice: Choice::Links,
+    },
+    Flag {
+        name: "--entities",
+        short: None,
+        value: Some("FILE"),
+        choice: Choice::Entities,
+    },
+    Flag {
+        name: "--request-json",
+        short: None,
+        value: Some("FILE"),
+        choice: Choice::Request,
+    },
+    Flag {
+        name: "--principal",
+        short: Some("-l"),
+        value: Some("ENTITY"),
+        choice: Choice::Principal,
+    },
+    Flag {
+        name: "--action",
+        short: Some("-a"),
+        value: Some("ENTITY"),
+        choice: Choice::Action,
+    },
+    Flag {
+        name: "--resource",
+        short: Some("-r"),
+        value: Some("ENTITY"),
+        choice: Choice::Resource,
+    },
+    Flag {
+        name: "--context",
+        short: Some("-c"),
+        value: Some("FILE"),
+        choice: Choice::Context,
+    },
+    Flag {
+        name: "--verbose",
+        short: Some("-v"),
+        value: None,
+        choice: Choice::Verbose,
+    },
+    Flag {
+        name: "--json",
+        short: None,
+        value: None,
+        choice: Choice::Json,
+    },
+];
+
+const FLAGS_OF_EVALUATE: &[Flag] = &[
+    Flag {
+        name: "--entities",
+        short: None,
+        value: Some("FILE"),
+        choice: Choice::Entities,
+    },
+    Flag {
+        name: "--request-json",
+        short: None,
+        value: Some("FILE"),
+        choice: Choice::Request,
+    },
 ];
 
 /// What the words are called, for who gave none.
-pub(crate) const NAMES_OF_WORDS: &str = "check, test, explain or session";
+pub(crate) const NAMES_OF_WORDS: &str = "check, test, explain, authorize, evaluate or session";
 
 pub(crate) const WORDS: &[Word] = &[
     Word {
@@ -124,6 +238,7 @@ pub(crate) const WORDS: &[Word] = &[
         task: Task::Check,
         flags: FLAGS_OF_CHECK,
         usage: pages::USAGE_OF_CHECK,
+        usage_status: USAGE_FAULT,
         page: pages::CHECK,
     },
     Word {
@@ -131,27 +246,45 @@ pub(crate) const WORDS: &[Word] = &[
         task: Task::Test,
         flags: FLAGS_OF_TEST,
         usage: pages::USAGE_OF_TEST,
+        usage_status: USAGE_FAULT,
         page: pages::TEST,
     },
     Word {
         name: "explain",
         task: Task::Explain,
-        flags: &[],
+        flags: FLAGS_OF_JSON,
         usage: pages::USAGE_OF_EXPLAIN,
+        usage_status: USAGE_FAULT,
         page: pages::EXPLAIN,
+    },
+    Word {
+        name: "authorize",
+        task: Task::Authorize,
+        flags: FLAGS_OF_AUTHORIZE,
+        usage: pages::USAGE_OF_AUTHORIZE,
+        usage_status: REFUSED,
+        page: pages::AUTHORIZE,
+    },
+    Word {
+        name: "evaluate",
+        task: Task::Evaluate,
+        flags: FLAGS_OF_EVALUATE,
+        usage: pages::USAGE_OF_EVALUATE,
+        usage_status: REFUSED,
+        page: pages::EVALUATE,
     },
     Word {
         name: "session",
         task: Task::Session,
-        flags: &[],
+        flags: FLAGS_OF_JSON,
         usage: pages::USAGE_OF_SESSION,
+        usage_status: USAGE_FAULT,
         page: pages::SESSION,
     },
 ];
 
 /// Words of the command lines of others, each with the one that does the same here.
 pub(crate) const WORDS_OF_OTHERS: &[(&str, &str)] = &[
-    ("authorize", "explain"),
     ("check-parse", "check"),
     ("run-tests", "test"),
     ("version", "--version"),

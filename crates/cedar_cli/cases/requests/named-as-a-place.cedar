@@ -1,0 +1,2 @@
+@id("policy1") permit(principal, action, resource);
+permit(principal is User, action, resource);

@@ -1,0 +1,2 @@
+@id("x") permit(principal, action, resource);
+@id("x") forbid(principal, action, resource);

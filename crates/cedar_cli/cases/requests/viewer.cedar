@@ -1,0 +1,2 @@
+@id("viewer")
+permit(principal == ?principal, action == Action::"read", resource == ?resource);

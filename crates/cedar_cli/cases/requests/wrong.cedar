@@ -1,0 +1,2 @@
+permit(principal, action, resource)
+when { context.hour = 9 };
