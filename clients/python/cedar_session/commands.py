@@ -3,12 +3,13 @@
 import enum
 import re
 import threading
+import weakref
 from dataclasses import dataclass
 from types import MappingProxyType
 from typing import Callable, Dict, Iterable, List, Match, NoReturn, Optional, Tuple, TypeVar, cast
 
-from . import values
-from .errors import BadValue, Busy, Ended, NoCommand, NotCopied, NoValue, Refused, TooLong
+from . import said, values
+from .errors import BadValue, Busy, CedarError, Ended, NoCommand, NotCopied, NotOpen, NoValue, Refused, TooLong
 from .values import Context, Entity, Part, Value
 
 BODY_LIMIT = 1_048_576
@@ -110,11 +111,14 @@ class Commands:
 
     depth = DEPTH
     language = LANGUAGE
+    # Whether commands are built as JSON, where that carries what is given: who sets it writes `_exchange_json`.
+    _takes_json = False
 
     def __init__(self) -> None:
         self._lock, self._is_busy = threading.RLock(), False
         # (few lines answer most questions)
         self._known: Dict[bytes, Line] = {}
+        self._count = 0
 
     def _check(self) -> None:
         """Raises where this caller can't give a command."""
@@ -122,6 +126,14 @@ class Commands:
     def _exchange(self, verb: str, body: bytes) -> bytes:
         """The line that answers a command, with its line feed."""
         raise NotImplementedError
+
+    def _exchange_json(self, verb: str, json: bytes) -> bytes:
+        """The line that answers a command of which JSON says the body, with its line feed."""
+        raise NotImplementedError
+
+    def _faults(self, verb: str, body: bytes) -> bytes:
+        """The faults of a command that isn't done, as a JSON list."""
+        raise CedarError("this way to a session tells no faults")
 
     def _end(self) -> None:
         """Closes it, where it isn't yet."""
@@ -146,7 +158,26 @@ class Commands:
         return self._alone(self._matched, verb, given)
 
     def _matched(self, verb: str, body: bytes) -> "Match[str]":
+        self._count += 1
         return self._match(self._exchange(verb, body), verb)
+
+    def _refused(self, word: str, verb: str, body: bytes) -> Refused:
+        """What is raised where the last command was refused. It keeps no session open."""
+        session, given = weakref.ref(self), self._count
+
+        def ask() -> bytes:
+            asked = session()
+            if asked is None:
+                raise NotOpen("the session is closed")
+            return asked._why_after(given, verb, body)
+
+        return Refused(word, ask)
+
+    def _why_after(self, given: int, verb: str, body: bytes) -> bytes:
+        if given != self._count:
+            raise CedarError("the session was given another command since")
+        self._check()
+        return self._alone(self._faults, verb, body)
 
     def _match(self, line: bytes, verb: str) -> "Match[str]":
         found = _FORMS[verb].fullmatch(line[:-1].decode(errors="replace")) if line.endswith(b"\n") else None
@@ -158,8 +189,28 @@ class Commands:
     def _done(self, verb: str, body: str) -> "Match[str]":
         found = self._answered(verb, body)
         if found["word"] is not None:
-            raise Refused(found["word"])
+            raise self._refused(found["word"], verb, encoded(body))
         return found
+
+    def _built(self, verb: str, json: Callable[[], Optional[str]], text: Callable[[], str]) -> "Match[str]":
+        """What answers a command that was built of values: as JSON, where that carries them, and else as a text."""
+        given = json() if self._takes_json else None
+        if given is None:
+            return self._done(verb, text())
+        self._check()
+        found = self._alone(self._matched_json, verb, given.encode())
+        if found["word"] is not None:
+            raise self._refused_json(found["word"], verb, text)
+        return found
+
+    def _matched_json(self, verb: str, json: bytes) -> "Match[str]":
+        self._count += 1
+        return self._match(self._exchange_json(verb, json), verb)
+
+    def _refused_json(self, word: str, verb: str, text: Callable[[], str]) -> CedarError:
+        """What is raised where JSON was refused: why is asked of the text that says the same."""
+        body = text()
+        return TooLong("the body is too long") if word == "Long" else self._refused(word, verb, encoded(body))
 
     def line(self, verb: str, body: str) -> str:
         """The line that answers a command, a refusal too, without its line feed."""
@@ -175,31 +226,40 @@ class Commands:
 
     def link(self, template: str, link: str, principal: Optional[Entity] = None, resource: Optional[Entity] = None) -> None:
         """Links a template under an id, with the entities of its slots."""
-        self._done("link", values.link_of(template, link, principal, resource))
+        given = (template, link, principal, resource)
+        self._built("link", lambda: said.link_of(*given), lambda: values.link_of(*given))
 
     def unlink(self, link: str) -> None:
-        self._done("unlink", values.quoted(link))
+        self._built("unlink", lambda: said.id_of(link), lambda: values.quoted(link))
 
     def remove_static(self, policy: str) -> None:
-        self._done("remove-static", values.quoted(policy))
+        self._built("remove-static", lambda: said.id_of(policy), lambda: values.quoted(policy))
 
     def remove_template(self, template: str) -> None:
-        self._done("remove-template", values.quoted(template))
+        self._built("remove-template", lambda: said.id_of(template), lambda: values.quoted(template))
 
     def add(self, entities: Iterable[Entity]) -> None:
         """Adds entities to those held, which stay as they are."""
-        self._done("add", values.listed(entities))
+        given = list(entities)
+        self._built("add", lambda: said.listed(given), lambda: values.listed(given))
 
     def put(self, entities: Iterable[Entity]) -> None:
         """Puts entities in the place of those held."""
-        self._done("put", values.listed(entities))
+        given = list(entities)
+        self._built("put", lambda: said.listed(given), lambda: values.listed(given))
 
     def remove(self, entities: Iterable[Entity]) -> None:
-        self._done("remove", values.names_of(entities))
+        given = list(entities)
+        self._built("remove", lambda: said.names_of(given), lambda: values.names_of(given))
 
     def ask(self, *, principal: Part, action: Part, resource: Part, context: Context = EMPTY) -> Answer:
         """Asks a question. What isn't known is UNKNOWN, and has to be said; without a context there is an empty one."""
-        return answer_of(self.asked(values.question_of(principal, action, resource, context)))
+        given = (principal, action, resource, context)
+        json = said.question_of(*given) if self._takes_json else None
+        if json is None:
+            return answer_of(self.asked(values.question_of(*given)))
+        self._check()
+        return answer_of(self._alone(self._line_to_json, json.encode(), lambda: values.question_of(*given)))
 
     def asked(self, question: str) -> Line:
         """Asks a question by its text, which nobody else wrote a part of."""
@@ -208,12 +268,20 @@ class Commands:
         return self._alone(self._line_to, given)
 
     def _line_to(self, question: bytes) -> Line:
-        line = self._exchange("ask", question)
+        self._count += 1
+        return self._known_line(self._exchange("ask", question), lambda word: self._refused(word, "ask", question))
+
+    def _line_to_json(self, question: bytes, text: Callable[[], str]) -> Line:
+        self._count += 1
+        return self._known_line(self._exchange_json("ask-partial", question), lambda word: self._refused_json(word, "ask", text))
+
+    def _known_line(self, line: bytes, refused: Callable[[str], CedarError]) -> Line:
+        """What a line says to a question."""
         known = self._known.get(line)
         if known is None:
             found = self._match(line, "ask")
             if found["word"] is not None:
-                raise Refused(found["word"])
+                raise refused(found["word"])
             known = _line_of(found)
             if len(self._known) >= _MOST_KNOWN:
                 self._known.clear()
@@ -222,7 +290,7 @@ class Commands:
 
     def tell(self, /, **known: Value) -> Answer:
         """Tells values by the names of the open question's unknowns, which may be `principal`, `action`, `resource` and `context`."""
-        return answer_of(_line_of(self._done("tell", values.told(known))))
+        return answer_of(_line_of(self._built("tell", lambda: said.told(known), lambda: values.told(known))))
 
     def close(self) -> None:
         """Closes the session; a closed one stays closed."""

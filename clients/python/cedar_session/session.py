@@ -39,6 +39,10 @@ def _library(path: Optional[str]) -> ctypes.CDLL:
         cedar.cedar_free.argtypes = cedar.cedar_close.argtypes = [handle]
         if hasattr(cedar, "cedar_new_standard"):
             cedar.cedar_new_standard.argtypes = cedar.cedar_new.argtypes
+        if hasattr(cedar, "cedar_command_json"):
+            cedar.cedar_command_json.argtypes = cedar.cedar_command.argtypes
+        if hasattr(cedar, "cedar_why"):
+            cedar.cedar_why.argtypes = [*cedar.cedar_command.argtypes, *cedar.cedar_answer.argtypes[1:]]
         version = cedar.cedar_version().decode(errors="replace")
     except (AttributeError, OSError) as why:
         raise NoLibrary(str(why)) from why
@@ -82,6 +86,7 @@ class Session(Commands):
         self._written = ctypes.c_size_t()
         self._written_at = ctypes.byref(self._written)
         self._make_room(256)
+        self._takes_json = hasattr(self._cedar, "cedar_command_json")
         has_types = hasattr(self._cedar, "cedar_new_standard")
         if types and not has_types:
             raise NoLibrary("the shared object has no session with Cedar's extension types")
@@ -109,9 +114,25 @@ class Session(Commands):
         self._want(self._cedar.cedar_command(self._handle, named, len(named), body, len(body)))
         return self._line()
 
+    def _exchange_json(self, verb: str, json: bytes) -> bytes:
+        named = verb.encode()
+        self._want(self._cedar.cedar_command_json(self._handle, named, len(named), json, len(json)))
+        return self._line()
+
     def _line(self) -> bytes:
         while True:
             status = self._cedar.cedar_answer(self._handle, self._output_at, self._room, self._written_at)
+            if status != _NO_ROOM:
+                self._want(status)
+                return ctypes.string_at(self._output_at, self._written.value)
+            self._make_room(self._written.value)
+
+    def _faults(self, verb: str, body: bytes) -> bytes:
+        if not hasattr(self._cedar, "cedar_why"):
+            raise CedarError("the shared object tells no faults")
+        named = verb.encode()
+        while True:
+            status = self._cedar.cedar_why(self._handle, named, len(named), body, len(body), self._output_at, self._room, self._written_at)
             if status != _NO_ROOM:
                 self._want(status)
                 return ctypes.string_at(self._output_at, self._written.value)
@@ -199,7 +220,7 @@ class SessionThread(Commands):
             raise BadValue(f"no thread has a stack of {stack} bytes") from why
         try:
             self._session = self._thread.do(Session, depth, library, types)
-            self.language = self._session.language
+            self.language, self._takes_json = self._session.language, self._session._takes_json
         except BaseException:
             self._thread.end()
             raise
@@ -215,6 +236,12 @@ class SessionThread(Commands):
 
     def _exchange(self, verb: str, body: bytes) -> bytes:
         return self._thread.do(self._session._exchange, verb, body)
+
+    def _exchange_json(self, verb: str, json: bytes) -> bytes:
+        return self._thread.do(self._session._exchange_json, verb, json)
+
+    def _faults(self, verb: str, body: bytes) -> bytes:
+        return self._thread.do(self._session._faults, verb, body)
 
     def _end(self) -> None:
         # (a forked process has no such thread, and nothing to give back)

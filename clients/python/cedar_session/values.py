@@ -1,7 +1,9 @@
 """Values of the language, and the texts that stand for them. A text that a user typed is quoted here, and nowhere else."""
 
 import re
+from collections import abc
 from dataclasses import dataclass, field
+from functools import lru_cache
 from typing import AbstractSet, Any, Collection, Dict, Iterable, List, Mapping, Optional, Union
 
 from .errors import BadValue, NoValue
@@ -10,6 +12,8 @@ _LEAST, _MOST = -(2**63), 2**63 - 1
 _PATH = re.compile(r"[A-Za-z_][A-Za-z0-9_]*(?:::[A-Za-z_][A-Za-z0-9_]*)*")
 _RESERVED = frozenset(("true", "false", "if", "then", "else", "in", "like", "has", "is", "__cedar"))
 _MAKERS = frozenset(("decimal", "ip", "datetime", "duration"))
+# Few types name most entities: of so many, which aren't longer, it is kept whether they are names.
+_MOST_PATHS, _LONGEST_PATH = 256, 256
 _ESCAPES = str.maketrans({'"': '\\"', "\\": "\\\\", "\n": "\\n", "\r": "\\r", "\t": "\\t", "\0": "\\0"})
 
 
@@ -69,6 +73,9 @@ Context = Union[Mapping[str, Value], UnknownPart]
 
 def quoted(text: str) -> str:
     """The string literal of a text."""
+    # Most texts stand in quotes as they are: what is printable is no half of a character, and none that is escaped but these two.
+    if type(text) is str and text.isprintable() and '"' not in text and "\\" not in text:
+        return f'"{text}"'
     if not isinstance(text, str):
         raise NoValue(f"a {type(text).__name__} is no text")
     if not text.isascii() and any("\ud800" <= it <= "\udfff" for it in text):
@@ -127,13 +134,14 @@ def _entity(entity: Entity) -> str:
     if entity.parents:
         data += f",parents:{names_of(entity.parents)}"
     for key, record in (("attrs", entity.attrs), ("tags", entity.tags)):
-        if record or not isinstance(record, Mapping):
+        if record or not isinstance(record, (dict, abc.Mapping)):
             data += f",{key}:{_record_of(record, False)}"
     return data + "}"
 
 
 def _record_of(record: object, may_wait: bool) -> str:
-    if not isinstance(record, Mapping):
+    # (to be a dict is told quicker)
+    if not isinstance(record, (dict, abc.Mapping)):
         raise NoValue(f"a {type(record).__name__} is no record")
     try:
         return _record(record, may_wait)
@@ -171,6 +179,14 @@ def path(name: str) -> str:
     """The name of a type of entities, where it is one."""
     if not isinstance(name, str):
         raise NoValue(f"a {type(name).__name__} is no type of entities")
-    if not _PATH.fullmatch(name) or not _RESERVED.isdisjoint(name.split("::")):
+    is_one = _is_known_path(name) if type(name) is str and len(name) <= _LONGEST_PATH else _is_path(name)
+    if not is_one:
         raise BadValue(f"no type of entities is named {name!r}")
     return name
+
+
+def _is_path(name: str) -> bool:
+    return _PATH.fullmatch(name) is not None and _RESERVED.isdisjoint(name.split("::"))
+
+
+_is_known_path = lru_cache(_MOST_PATHS)(_is_path)

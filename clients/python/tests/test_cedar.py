@@ -13,7 +13,7 @@ import warnings
 from unittest import mock
 
 import cedar_session as cedar
-from cedar_session import UNKNOWN, Answer, Decision, Entity, Unknown, UnknownPart
+from cedar_session import UNKNOWN, Answer, Decision, Entity, Fault, Unknown, UnknownPart
 
 ALICE, MALLORY, STAFF = Entity("User", "alice"), Entity("User", "mallory"), Entity("Group", "staff")
 VIEW, PHOTO = Entity("Action", "view"), Entity("Photo", "1")
@@ -148,6 +148,70 @@ class Answers:
             ask(self.session)
 
 
+class Explained:
+    """What a client in the process tells of a refusal."""
+
+    def refusal(self, command, *given, **named):
+        with self.assertRaises(cedar.Refused) as caught:
+            command(*given, **named)
+        return caught.exception
+
+    def test_each_error_of_policies_is_told(self):
+        refusal = self.refusal(self.session.load, ANY + "\npermit(principal, action, resource) when { context.a = 1 };\nforbid(é, action, resource)")
+        self.assertEqual(refusal.word, "Text")
+        self.assertEqual(
+            refusal.faults,
+            (
+                Fault(3, 8, 3, 8, "InvalidToken", "invalid token", None, None),
+            ),
+        )
+        refusal = self.refusal(self.session.load, ANY + "\npermit(principal, action, resource) when { context.a = 1 };\nforbid(principal, action, resource) where { true };")
+        self.assertEqual(
+            refusal.faults,
+            (
+                Fault(2, 44, 2, 57, "InvalidSingleEq", "'=' is not a valid operator in Cedar", None, "did you mean `==`?"),
+                Fault(3, 37, 3, 42, "InvalidCondition", "invalid policy condition: where", None, "a clause begins with `when` or `unless`"),
+            ),
+        )
+        self.assertIsNone(refusal.unasked)
+
+    def test_the_part_of_a_body_is_told(self):
+        self.session.put([ALICE])
+        refusal = self.refusal(self.session.add, [Entity("User", "alice", attrs={"n": 1})])
+        (fault,) = refusal.faults
+        self.assertEqual((fault.line, fault.column, fault.kind), (1, 2, "Duplicate"))
+        self.assertEqual(fault.message, 'User::"alice" stands there already, with other parts')
+        ask(self.session, ALICE)
+        (fault,) = self.refusal(self.session.tell, day=1).faults
+        self.assertEqual((fault.kind, fault.message), ("NoSuchUnknown", '"day" isn\'t among the names to tell: ["action","context","resource"]'))
+
+    def test_a_reason_without_a_place_has_no_faults(self):
+        refusal = self.refusal(self.session.unlink, "l")
+        self.assertEqual((refusal.word, refusal.faults, refusal.unasked), ("NoSuchPolicy", (), None))
+
+    def test_faults_change_nothing(self):
+        self.session.load(ANY)
+        refusal = self.refusal(self.session.load, "permit")
+        self.assertEqual(len(refusal.faults), 1)
+        self.assertIs(refusal.faults, refusal.faults)
+        self.assertEqual(self.session.last_line(), "refused Text")
+        self.assertEqual(self.session.load(ANY), ["policy0"])
+
+    def test_no_session_is_asked_later(self):
+        refusal = self.refusal(self.session.load, "permit")
+        ask(self.session)
+        self.assertEqual((refusal.faults, refusal.unasked), ((), "the session was given another command since"))
+        refusal = self.refusal(self.session.load, "permit")
+        self.session.close()
+        self.assertEqual(refusal.faults, ())
+        self.assertIsNotNone(refusal.unasked)
+
+    def test_control_characters_are_read_back(self):
+        (fault,) = self.refusal(self.session.load, '"a\tb\x01é";').faults
+        self.assertEqual(fault.message, 'unexpected token `"a\tb\x01é"`')
+        self.assertEqual((fault.column, fault.end_column), (1, 8))
+
+
 class Interrupted:
     """What comes between a command and its line: a handler that uses the session, and an exception."""
 
@@ -276,7 +340,7 @@ class AnyThread:
         self.assertEqual(ask_all(self.session, ALICE).decision, Decision.ALLOW)
 
 
-class Sessions(Answers, Interrupted, unittest.TestCase):
+class Sessions(Answers, Explained, Interrupted, unittest.TestCase):
     def opened(self):
         return cedar.Session()
 
@@ -414,7 +478,7 @@ class Sessions(Answers, Interrupted, unittest.TestCase):
         self.assertEqual(os.waitstatus_to_exitcode(os.waitpid(child, 0)[1]), 7)
 
 
-class SessionThreads(Answers, Interrupted, AnyThread, unittest.TestCase):
+class SessionThreads(Answers, Explained, Interrupted, AnyThread, unittest.TestCase):
     def opened(self):
         return cedar.SessionThread()
 
@@ -422,6 +486,8 @@ class SessionThreads(Answers, Interrupted, AnyThread, unittest.TestCase):
         with cedar.SessionThread(depth=cedar.DEPTH_MAX) as deep:
             levels = cedar.DEPTH_MAX - 1
             deep.load("permit(principal, action, resource) when { " + "(" * levels + "true" + ")" * levels + " };")
+        with cedar.SessionThread(depth=0) as least, self.assertRaisesRegex(cedar.Refused, "Depth"):
+            ask(least)
 
     def test_the_last_line(self):
         self.session.load(ANY)
@@ -431,6 +497,12 @@ class SessionThreads(Answers, Interrupted, AnyThread, unittest.TestCase):
 class Children(Answers, Interrupted, AnyThread, unittest.TestCase):
     def opened(self):
         return cedar.Child()
+
+    def test_a_child_tells_no_faults(self):
+        with self.assertRaises(cedar.Refused) as caught:
+            self.session.load("permit")
+        self.assertEqual(caught.exception.faults, ())
+        self.assertEqual(caught.exception.unasked, "this way to a session tells no faults")
 
     def test_a_closed_child_is_gone(self):
         self.session.close()
@@ -468,7 +540,7 @@ class Names(unittest.TestCase):
     def test_kinds_of_errors(self):
         self.assertTrue(issubclass(cedar.NoValue, TypeError) and issubclass(cedar.BadValue, ValueError) and issubclass(cedar.NoMemory, MemoryError))
         again = pickle.loads(pickle.dumps(cedar.Refused("Shape")))
-        self.assertEqual((again.word, str(again)), ("Shape", "Shape"))
+        self.assertEqual((again.word, str(again), again.faults), ("Shape", "Shape", ()))
 
 
 if __name__ == "__main__":

@@ -121,6 +121,12 @@ class Copies(WithLog):
             self.assertEqual((copy.position, copy.snapshot().frames), (10, held))
             self.assertEqual(answers(copy), told)
 
+    def test_a_copy_tells_no_faults(self):
+        for session in (self.copy(), self.copy().edit()):
+            with self.assertRaisesRegex(cedar.Refused, "Text") as caught:
+                session.load("permit(")
+            self.assertEqual((caught.exception.faults, caught.exception.unasked), ((), "this way to a session tells no faults"))
+
     def test_a_process_that_ends_in_an_edit_is_begun_again(self):
         other, ending = self.copy(), self.program()
         self.fill()

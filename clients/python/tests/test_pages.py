@@ -39,7 +39,7 @@ class First(unittest.TestCase):
         names = shown(0)
         self.assertEqual(names["answer"].decision, cedar.Decision.ALLOW)
         self.assertEqual(names["told"].decision, cedar.Decision.DENY)
-        self.assertEqual(names["why"], "Text")
+        self.assertEqual(names["why"], "unexpected end of input")
 
     def test_the_readme(self):
         with open(os.path.join(os.path.dirname(PAGE), "../clients/python/README.md"), encoding="utf-8") as it:

@@ -69,6 +69,13 @@ def expression(value):
     return "[" + ", ".join(reversed([expression(it) for it in value])) + "]"
 
 
+def nested(depth):
+    value = 1
+    for _ in range(depth):
+        value = [value]
+    return value
+
+
 def other_than(value):
     """A value that isn't the same."""
     if isinstance(value, bool):
@@ -164,6 +171,28 @@ class Values(unittest.TestCase):
         for text in (1, None, b"10.0.0.1"):
             with self.subTest(text=text), cedar.Session() as session, self.assertRaises(cedar.NoValue):
                 session.tell(v=Extension("ip", text))
+
+    def test_what_json_says_otherwise_is_read_back(self):
+        """Keys that stand for something in JSON, and what nests as deep as it carries, or deeper."""
+        cases = {
+            "an entity": {"__entity": {"type": "U", "id": "a"}},
+            "a call": {"__extn": {"fn": "ip", "arg": "::1"}},
+            "an expression": {"__expr": 'U::"a"'},
+            "an entity in a set": [{"__entity": 1}, {"a": {"__entity": "U::a"}}],
+            "a record of a type and an id": {"type": "U", "id": "a"},
+            **{f"{depth} sets": nested(depth) for depth in (100, 101, 102, 127, 128, 129, 200)},
+        }
+        for name, value in cases.items():
+            for way in (self.in_the_context, self.in_attributes, self.told):
+                with self.subTest(name=name, way=way.__name__):
+                    answer = way([value, value], [expression(value), expression(other_than(value))])
+                    self.assertEqual((answer.must, answer.erring), (("policy0",), {}))
+
+    def test_what_is_too_long(self):
+        least = "a" * 1_048_576
+        for give in (lambda it: it.tell(v=least), lambda it: it.put([Entity("U", least)]), lambda it: it.unlink(least)):
+            with cedar.Session() as session, self.assertRaises(cedar.TooLong):
+                give(session)
 
     def test_other_kinds_are_none(self):
         itself = []

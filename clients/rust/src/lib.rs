@@ -20,12 +20,14 @@
 //! ```
 
 mod commands;
+mod faults;
 mod lines;
 mod session;
 mod stack;
 mod values;
 
 pub use commands::{BODY_LIMIT, Commands, Error, Verb};
+pub use faults::{Fault, Place};
 pub use lines::{Answer, Decision, answer_of};
 pub use session::{DEPTH, DEPTH_MAX, Session, SessionThread, library_version};
 pub use stack::stack_for;

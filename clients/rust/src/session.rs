@@ -1,6 +1,7 @@
 //! Sessions by the library.
 
-use crate::commands::{Commands, Error, Verb};
+use crate::commands::{BODY_LIMIT, Commands, Error, Verb};
+use crate::faults::{Fault, faults_of};
 use crate::stack::{stack_for, stack_here};
 use std::ffi::{CStr, c_char};
 use std::ptr::{self, NonNull};
@@ -33,6 +34,16 @@ unsafe extern "C" {
         body_length: usize,
     ) -> u32;
     fn cedar_answer(session: *mut Handle, output: *mut u8, output_length: usize, written: &mut usize) -> u32;
+    fn cedar_why(
+        session: *mut Handle,
+        verb: *const u8,
+        verb_length: usize,
+        body: *const u8,
+        body_length: usize,
+        output: *mut u8,
+        output_length: usize,
+        written: &mut usize,
+    ) -> u32;
     fn cedar_free(session: *mut Handle) -> u32;
     fn cedar_version() -> *const c_char;
 }
@@ -110,19 +121,48 @@ impl Session {
 
     /// The line that answers the last command, without its line feed; nothing before the first. It changes nothing.
     pub fn last_line(&mut self) -> Result<String, Error> {
+        let handle = self.handle.as_ptr();
+        // SAFETY: the output has so much room, and the handle is this session's.
+        let line = self.written_by(|at, room, written| unsafe { cedar_answer(handle, at, room, written) })?;
+        Ok(line.strip_suffix('\n').unwrap_or_default().to_owned())
+    }
+
+    /// Why the session would refuse a command, which it isn't given: of policies each error of the text, of another
+    /// body each by which it isn't read, or the part for which it is refused. Empty where the command wouldn't be
+    /// refused, or where no place of the body shows the reason, as where an id is bound. It changes nothing.
+    pub fn why(&mut self, verb: Verb, body: &str) -> Result<Vec<Fault>, Error> {
+        if body.len() > BODY_LIMIT {
+            return Err(Error::TooLong);
+        }
+        let (handle, name) = (self.handle.as_ptr(), verb.name());
+        // SAFETY: each pointer is to as many bytes as are told, and the handle is this session's.
+        let list = self.written_by(|at, room, written| unsafe {
+            cedar_why(
+                handle,
+                name.as_ptr(),
+                name.len(),
+                body.as_ptr(),
+                body.len(),
+                at,
+                room,
+                written,
+            )
+        })?;
+        faults_of(&list).ok_or(Error::Line(list))
+    }
+
+    /// What a call writes to an output that has room for it.
+    fn written_by(&mut self, call: impl Fn(*mut u8, usize, &mut usize) -> u32) -> Result<String, Error> {
         let mut written = 0;
         loop {
-            let (at, room) = (self.output.as_mut_ptr(), self.output.len());
-            // SAFETY: the output has so much room, and the handle is this session's.
-            match unsafe { cedar_answer(self.handle.as_ptr(), at, room, &mut written) } {
+            match call(self.output.as_mut_ptr(), self.output.len(), &mut written) {
                 DONE => break,
                 NO_ROOM => self.output.resize(written, 0),
                 status => return Err(error_of(status, self.depth)),
             }
         }
-        let line = self.output.get(..written).unwrap_or_default();
-        let line = String::from_utf8_lossy(line.strip_suffix(b"\n").unwrap_or_default());
-        Ok(line.into_owned())
+        let text = self.output.get(..written).unwrap_or_default();
+        Ok(String::from_utf8_lossy(text).into_owned())
     }
 }
 
@@ -152,11 +192,8 @@ impl Drop for Session {
     }
 }
 
-struct Job {
-    verb: Verb,
-    body: String,
-    back: Sender<Result<String, Error>>,
-}
+/// What a thread does with its session.
+type Job = Box<dyn FnOnce(&mut Session) + Send>;
 
 /// A session on a thread of its own, which ends where this is dropped. It is `Send`, so that it goes to any thread.
 pub struct SessionThread {
@@ -178,8 +215,7 @@ impl SessionThread {
             Ok(mut session) => {
                 let _ = opened.send(Ok(()));
                 for job in taken {
-                    // Who asked may have gone.
-                    let _ = job.back.send(session.line(job.verb, &job.body));
+                    job(&mut session);
                 }
             }
             Err(why) => drop(opened.send(Err(why))),
@@ -199,13 +235,31 @@ impl SessionThread {
     }
 }
 
+impl SessionThread {
+    /// As [`Session::why`].
+    pub fn why(&mut self, verb: Verb, body: &str) -> Result<Vec<Fault>, Error> {
+        let body = body.to_owned();
+        self.done(move |session| session.why(verb, &body))
+    }
+
+    /// What comes of a job of the thread.
+    fn done<T: Send + 'static>(
+        &self,
+        job: impl FnOnce(&mut Session) -> Result<T, Error> + Send + 'static,
+    ) -> Result<T, Error> {
+        let (back, answered) = channel();
+        let jobs = self.jobs.as_ref().ok_or(Error::Ended)?;
+        // (who asked may have gone)
+        let job: Job = Box::new(move |session| drop(back.send(job(session))));
+        jobs.send(job).map_err(|_| Error::Ended)?;
+        answered.recv().unwrap_or(Err(Error::Ended))
+    }
+}
+
 impl Commands for SessionThread {
     fn line(&mut self, verb: Verb, body: &str) -> Result<String, Error> {
-        let (back, answered) = channel();
         let body = body.to_owned();
-        let jobs = self.jobs.as_ref().ok_or(Error::Ended)?;
-        jobs.send(Job { verb, body, back }).map_err(|_| Error::Ended)?;
-        answered.recv().unwrap_or(Err(Error::Ended))
+        self.done(move |session| session.line(verb, &body))
     }
 }
 

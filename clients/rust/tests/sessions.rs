@@ -1,8 +1,8 @@
 //! Tests of the client, over the archive that `CEDAR_ARCHIVE` names.
 
 use cedar_session::{
-    Answer, BODY_LIMIT, Commands, DEPTH, DEPTH_MAX, Decision, Entity, Error, Listed, Part, Question, Record,
-    Session, SessionThread, Value, Verb, answer_of, library_version,
+    Answer, BODY_LIMIT, Commands, DEPTH, DEPTH_MAX, Decision, Entity, Error, Fault, Listed, Part, Place, Question,
+    Record, Session, SessionThread, Value, Verb, answer_of, library_version,
 };
 use std::thread::{self, Builder};
 
@@ -184,6 +184,48 @@ fn refusals() -> Result<(), Error> {
         assert!(session.load(&" ".repeat(BODY_LIMIT))?.is_empty());
         Ok(())
     })
+}
+
+/// What is wrong in a text of policies, and in another body, and that nothing has changed by asking.
+fn explains(why: &mut dyn FnMut(Verb, &str) -> Result<Vec<Fault>, Error>) -> Result<(), Error> {
+    let faults = why(Verb::Load, "permit(principal, action, resource)")?;
+    let end = Place {
+        line: 1,
+        column: 36,
+    };
+    assert_eq!(faults.len(), 1);
+    assert_eq!(faults[0].places, Some((end, end)));
+    assert_eq!(
+        (&*faults[0].kind, &*faults[0].message),
+        ("UnrecognizedEof", "unexpected end of input")
+    );
+    assert_eq!(
+        faults[0].expected.as_deref(),
+        Some("expected `;` or identifier")
+    );
+    assert_eq!(faults[0].help.as_deref(), Some("a policy ends with `;`"));
+    assert_eq!(why(Verb::Load, ANY)?, []);
+    let faults = why(Verb::Remove, "3")?;
+    assert_eq!(
+        (faults.len(), &*faults[0].kind, &*faults[0].message),
+        (1, "Shape", "the body is no list of entities")
+    );
+    assert_eq!(
+        why(Verb::Load, &" ".repeat(BODY_LIMIT + 1)),
+        Err(Error::TooLong)
+    );
+    Ok(())
+}
+
+#[test]
+fn faults() -> Result<(), Error> {
+    on_a_thread(|mut session| {
+        explains(&mut |verb, body| session.why(verb, body))?;
+        assert_eq!(session.load(ANY)?, ["policy0"]);
+        Ok(())
+    })?;
+    let mut session = SessionThread::open(DEPTH)?;
+    explains(&mut |verb, body| session.why(verb, body))
 }
 
 #[test]
