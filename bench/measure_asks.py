@@ -71,6 +71,20 @@ def contexts(count):
     return frame('load', 'permit(principal, action, resource);'), ASK % ('User::"u"', 'read', 'Data::"d"', '{' + keys + '}')
 
 
+def sets_of(longs):
+    """A context of one set of these."""
+    return frame('load', 'permit(principal, action, resource);'), ASK % ('User::"u"', 'read', 'Data::"d"', f'{{s: [{", ".join(map(str, longs))}]}}')
+
+
+def rising_sets(count):
+    return sets_of(range(10_000, 10_000 + count))
+
+
+def mixed_sets(count):
+    """The same longs, in no order."""
+    return sets_of(10_000 + n * 389 % count for n in range(count))
+
+
 CASES = {
     'grants': (grants, (10, 100, 1000, 10_000)),
     'roles': (roles, (10, 100, 1000)),
@@ -79,6 +93,8 @@ CASES = {
     'written_sets': (written_sets, (50,)),
     'action_lists': (action_lists, (100,)),
     'contexts': (contexts, (10, 100, 1000)),
+    'rising_sets': (rising_sets, (500, 1000)),
+    'mixed_sets': (mixed_sets, (500, 1000)),
 }
 
 

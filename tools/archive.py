@@ -47,7 +47,12 @@ def declared():
 
 
 def version():
-    return re.search(r'(?m)^#define CEDAR_VERSION "(.*)"$', text_of(HEADER))[1]
+    """The version that the header states, whose first two numbers it states once more."""
+    header = text_of(HEADER)
+    stated, *numbers = (re.search(rf'(?m)^#define CEDAR_VERSION{it} "?([^"\n]*)"?$', header)[1] for it in ("", "_MAJOR", "_MINOR"))
+    if stated.split(".")[:2] != numbers:
+        raise Failed(f"{HEADER}: CEDAR_VERSION is {stated}, and its numbers are {' and '.join(numbers)}")
+    return stated
 
 
 def shared_name():

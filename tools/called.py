@@ -18,12 +18,12 @@ sys.dont_write_bytecode = True
 import rooms
 
 CALLERS = ["cedar_main", "cedar_cli", "cedar_c", "cedar_examples", "cedar_type_examples", "cedar_law_examples", "cedar_rows", "cedar_parser_rows", "cedar_evaluation_rows", "cedar_layer_rows"]
-# A crate's own tests, which the gate runs.
+# How the files of a crate's own tests end, which the gate runs.
 TESTS = "tests.rt"
 # The calls of traits that no text names.
 UNNAMED = set("fmt drop next eq cmp partial_cmp hash clone into_iter from deref as_ref borrow write_str read write flush".split())
 # What isn't code: comments, texts and characters.
-PLAIN = re.compile(r"//[^\n]*|r#\"(?:.|\n)*?\"#|b?\"(?:\\.|[^\"\\])*\"|b?'(?:\\.[^']*|[^'\\\n])'")
+PLAIN = re.compile(r"//[^\n]*|r#\"(?:.|\n)*?\"#|b?\"(?:\\(?:.|\n)|[^\"\\])*\"|b?'(?:\\.[^']*|[^'\\\n])'")
 CALL = re.compile(r"(?:(\b[A-Za-z_]\w*)\s*(?:::<[^()]*?>)?\s*::\s*|(\.)\s*)?\b([a-z_]\w*)\b(?=(\s*(?:::\s*<|\())?)")
 GENERIC = re.compile(r"^\s*<(?:[^<>]|<(?:[^<>]|<[^<>]*>)*>)*>")
 
@@ -134,7 +134,7 @@ class Sources:
 
     def reached(self):
         self.visible = {it: set(rooms.below(self.rooms, it)) | {it} for it in self.rooms}
-        left, seen = [it for it in self.functions if it.crate in CALLERS or os.path.basename(it.file) == TESTS], set()
+        left, seen = [it for it in self.functions if it.crate in CALLERS or it.file.endswith(TESTS)], set()
         while left:
             caller = left.pop()
             if caller in seen:

@@ -4,15 +4,18 @@
 Each folder of crates/cedar_cli/cases is a run: the program is started there with the words of `args`, one a line, and `stdin`; it
 must write `stdout` and `stderr`, and end with the number in `status` (0 where there is none). The other files are those that the
 words name. `refused.txt` and `told.txt` have texts, each below a line `==== NAME`, with `<TAB>` and the like for characters that can't be
-seen, and behind `> ` what is printed of them, without types where the name begins so. `habits.txt` has lines for a shell, in which `cedar_cli` is the program, over a copy of the
-folder `habits`: below `==== NAME` stand `$ LINE`, what it writes, `! ` before each line of its errors, and `= STATUS` where that isn't 0.
-docs/POLICIES.md shows scripts, and what they print: each is run too. Beside these it tries texts that are too long or too deep, and that
+seen, and behind `> ` what is printed of them, without types where the name begins so. `calls.txt` has calls of isAuthorized, each with its
+answer and its status. What `check`, `test` and `explain` write with `--json` is as docs/cli.schema.json has it, too. `habits.txt` and `requests.txt` have lines for a shell, in which `cedar_cli` is the program, over a
+copy of the folder of that name: below `==== NAME` stand `$ LINE`, what it writes, `! ` before each line of its errors, and `= STATUS` where that isn't 0.
+docs/POLICIES.md and docs/JSON.md show files and commands, and what these print: each is run too. Beside these it tries texts that are too long or too deep, and that
 `check` takes a time that grows as the text does: at most some times that of a session's `load` of the same text, each the best of three; and
-that four times as many tests, templates or policies that err take less than seven times as long.
+that four times as many tests, templates, policies that err, and parts of a call take less than seven times as long, beyond what a run with none takes. A time
+that is too long is measured twice more before it is told.
 
 All is written by hand, from what is promised. Of a program that isn't proved (tools/build.py) the case `version` fails, since that
 program says so. Ends with status 1 where a run goes otherwise."""
 
+import json
 import os
 import re
 import resource
@@ -22,21 +25,44 @@ import subprocess
 import sys
 import tempfile
 
+from json_schema import faults_of_text
+
 CASES = "crates/cedar_cli/cases"
-PAGE = "docs/POLICIES.md"
+PAGES = ["docs/POLICIES.md", "docs/JSON.md"]
+SCHEMA = "docs/cli.schema.json"
 SECONDS = 60
 # How often the time of a session's load a check of the same text may take; one with faults is read twice, and each is told.
 SLOWER, SLOWER_WITH_FAULTS = 3, 6
 GROWTH = 7
 EXPLAIN = ["explain", "parts", "none", "asked"]
-# What grows, the words, a part of the file `parts`, and how many.
+AUTHORIZE = ["authorize", "-p", "parts", "--principal", 'A::"a"', "--action", 'A::"a"', "--resource", 'A::"a"']
+# A call, with these policies and these entities.
+CALL = '{"principal":"A::\\"a\\"","action":"A::\\"a\\"","resource":"A::\\"a\\"","context":{},"entities":[%s],"policies":{%s}}'
+STATIC = CALL % ("", '"staticPolicies":{PARTS "a":"permit(principal,action,resource);"}')
+LINKS = CALL % ("", '"templates":{"t":"permit(principal==?principal,action,resource);"},"templateLinks":[PARTS {"templateId":"t","newId":"a","values":{"?principal":"A::\\"a\\""}}]')
+ENTITIES = CALL % ('PARTS {"uid":{"type":"A","id":"a"}}', "")
+# What grows, the words, the text, a part of it, and how many stand in place of PARTS: so many that a run takes long enough to be measured, and
+# that four times as many are no longer than a text may be.
 GROWTHS = [
-    ("names of tests", ["test", "--list", "parts"], "test t%d\n", 10_000),
-    ("templates", EXPLAIN, 'permit(principal == ?principal, action == Action::"a%d", resource);\n', 3_000),
-    ("policies that err", EXPLAIN, "permit(principal, action, resource) when { context.a%d };\n", 3_000),
+    ("names of tests", ["test", "--list", "parts"], "PARTS", "test t%d\n", 60_000),
+    ("templates", EXPLAIN, "PARTS", 'permit(principal==?principal,action==A::"%d",resource);\n', 4_400),
+    ("policies that err", EXPLAIN, "PARTS", "permit(principal,action,resource)when{context.a%d};\n", 4_600),
+    ("named policies", AUTHORIZE, "PARTS", '@id("a%d")permit(principal,action,resource);\n', 5_000),
+    ("policies of a call", ["authorize", "--json"], STATIC, '"a%d":"permit(principal,action,resource)when{context.a};",', 5_000),
+    ("links of a call", ["authorize", "--json"], LINKS, '{"templateId":"t","newId":"l%d","values":{"?principal":"A::\\"a\\""}},', 5_000),
+    ("entities of a call", ["authorize", "--json"], ENTITIES, '{"uid":{"type":"A","id":"%d"},"attrs":{"n":1},"parents":[]},', 10_000),
 ]
 # Characters that texts have by their names.
 CHARACTERS = {"<TAB>": "\t", "<CR>": "\r", "<ESC>": "\x1b", "<NUL>": "\0", "<BEL>": "\a"}
+
+
+# The words whose output with `--json` the schema has.
+TOLD_TO_PROGRAMS = {"check", "test", "explain"}
+
+
+def schema_of_outputs():
+    with open(SCHEMA, encoding="utf-8") as it:
+        return json.load(it)
 
 
 def text_of(path, otherwise=""):
@@ -95,6 +121,19 @@ def of_texts(program):
             yield f"{file}: {name}", (status, told, ""), ran(program, words, text.encode())
 
 
+# ---- calls of isAuthorized
+
+
+def of_calls(program):
+    """Each call of a file by its name: the call, `> ` and what it is answered, and `= STATUS`."""
+    for block in text_of(f"{CASES}/calls.txt").split("==== ")[1:]:
+        name, *lines = block.rstrip("\n").split("\n")
+        call = "".join(f"{it}\n" for it in lines if not it.startswith(("> ", "= ")))
+        told = "".join(f"{it[2:]}\n" for it in lines if it.startswith("> "))
+        status = int(lines[-1].removeprefix("= "))
+        yield f"calls.txt: {name}", (status, told, ""), ran(program, ["authorize", "--json"], call.encode())
+
+
 # ---- runs in a folder
 
 
@@ -103,7 +142,11 @@ def of_folders(program):
         folder = f"{CASES}/{name}"
         words = text_of(f"{folder}/args").split("\n")[:-1]
         wanted = (int(text_of(f"{folder}/status", "0")), text_of(f"{folder}/stdout"), text_of(f"{folder}/stderr"))
-        yield name, wanted, ran(program, words, text_of(f"{folder}/stdin").encode(), folder)
+        got = ran(program, words, text_of(f"{folder}/stdin").encode(), folder)
+        yield name, wanted, got
+        if "--json" in words and words[0] in TOLD_TO_PROGRAMS:
+            why = "".join(f"{it}\n" for it in faults_of_text(schema_of_outputs(), got[1].decode(errors="replace")))
+            yield f"{name}, by the schema", (0, "", ""), (0, why.encode(), b"")
 
 
 def status_of(block):
@@ -114,27 +157,27 @@ def status_of(block):
     return 1 if re.search(r"(?m)^FAIL|^\S+:\d+:\d+: (?!policy)", block) else 0
 
 
-def of_page(program):
-    """The files of the page, each below a line that names it, and what each command prints."""
-    if not os.path.exists(PAGE):
-        return
-    with tempfile.TemporaryDirectory(prefix="page-") as room:
-        for block in re.findall(r"(?ms)^```(?:\w+)?\n(.*?)^```", text_of(PAGE)):
-            file = re.match(r"(?://|#) (\S+\.(?:cedar|tests|entities|question))\b.*\n", block)
-            command = re.match(r"\$ cedar_cli (.*)\n", block)
-            if file:
-                with open(f"{room}/{file[1]}", "w", encoding="utf-8") as it:
-                    it.write(block)
-            elif command:
-                yield f"{PAGE}: {command[1]}", (status_of(block), block[command.end() :], ""), ran(program, shlex.split(command[1]), b"", room)
+def of_pages(program):
+    """The files of each page, each below a line that names it (which JSON hasn't as a comment), and what each command prints."""
+    for page in filter(os.path.exists, PAGES):
+        with tempfile.TemporaryDirectory(prefix="page-") as room:
+            for block in re.findall(r"(?ms)^```(?:\w+)?\n(.*?)^```", text_of(page)):
+                file = re.match(r"(?://|#) (\S+\.(cedar|tests|entities|question|json)\b).*\n", block)
+                command = re.match(r"\$ cedar_cli (.*?)(?: < (\S+))?\n", block)
+                if file:
+                    with open(f"{room}/{file[1]}", "w", encoding="utf-8") as it:
+                        it.write(block[file.end() :] if file[2] == "json" else block)
+                elif command:
+                    given = text_of(f"{room}/{command[2]}").encode() if command[2] else b""
+                    yield f"{page}: {command[1]}", (status_of(block), block[command.end() :], ""), ran(program, shlex.split(command[1]), given, room)
 
 
 # ---- lines for a shell
 
 
-def habits():
-    """Each line for a shell by its name, with the status, the output and the errors that it has to have."""
-    for block in text_of(f"{CASES}/habits.txt").split("==== ")[1:]:
+def lines(file):
+    """Each line for a shell of a file by its name, with the status, the output and the errors that it has to have."""
+    for block in text_of(f"{CASES}/{file}.txt").split("==== ")[1:]:
         name, line, *told = block.rstrip("\n").split("\n")
         parts = {mark: "".join(f"{it[2:]}\n" for it in told if it.startswith(mark)) for mark in ("! ", "= ")}
         output = "".join(f"{it}\n" for it in told if not it.startswith(("! ", "= ")))
@@ -146,11 +189,11 @@ def of_habits(program):
         os.mkdir(f"{room}/bin")
         os.symlink(program, f"{room}/bin/cedar_cli")
         environment = {**os.environ, "PATH": f"{room}/bin:{os.environ['PATH']}", "LC_ALL": "C.UTF-8"}
-        for number, (name, line, wanted) in enumerate(habits()):
-            folder = f"{room}/{number}"
-            shutil.copytree(f"{CASES}/habits", folder)
+        for file, (name, line, wanted) in ((file, it) for file in ("habits", "requests") for it in lines(file)):
+            folder = tempfile.mkdtemp(dir=room)
+            shutil.copytree(f"{CASES}/{file}", folder, dirs_exist_ok=True)
             it = subprocess.run(["bash", "-c", line], cwd=folder, env=environment, stdin=subprocess.DEVNULL, capture_output=True, timeout=SECONDS)
-            yield f"habits: {name}", wanted, (it.returncode, it.stdout, it.stderr)
+            yield f"{file}: {name}", wanted, (it.returncode, it.stdout, it.stderr)
 
 
 # ---- what no file shows
@@ -193,32 +236,56 @@ def processor_seconds(program, words, given, room=None):
     return min(taken)
 
 
+def told_thrice(measure, *given):
+    """What is told of a time that was found to be too long three times; nothing where it once wasn't."""
+    why = ""
+    for _ in range(3):
+        why = measure(*given)
+        if not why:
+            break
+    return why
+
+
 def of_times(program):
     grants = "".join(f'permit(principal == User::"u{n}", action == Action::"a", resource == Doc::"d{n}");\n' for n in range(12_000))
     faults = 'permit(principal, action, resource) when { a = 1 };\n' * 5_000
     for name, text, slower in (("12,000 policies", grants.encode(), SLOWER), ("5,000 faults", faults.encode(), SLOWER_WITH_FAULTS)):
-        loaded = processor_seconds(program, ["session"], b"load %d\n%s\n" % (len(text), text))
-        checked = processor_seconds(program, ["check"], text)
-        why = "" if checked <= slower * loaded else f"check took {checked:.2f} processor seconds, and the load of the same text {loaded:.2f}\n"
+        why = told_thrice(check_told, program, text, slower)
         yield f"({name}: the time of check)", (0, "", ""), (0, why.encode(), b"")
+
+
+def check_told(program, text, slower):
+    loaded = processor_seconds(program, ["session"], b"load %d\n%s\n" % (len(text), text))
+    checked = processor_seconds(program, ["check"], text)
+    return "" if checked <= slower * loaded else f"check took {checked:.2f} processor seconds, and the load of the same text {loaded:.2f}\n"
 
 
 def of_growths(program):
     """Four times as much takes some four times as long, and not sixteen."""
-    for name, words, part, count in GROWTHS:
+    for name, words, text, part, count in GROWTHS:
         with tempfile.TemporaryDirectory(prefix="growth-") as room:
-            small, large = (time_of_parts(program, words, part, it, room) for it in (count, 4 * count))
-        why = "" if large <= GROWTH * small else f"{count} took {small:.2f} processor seconds, and {4 * count} took {large:.2f}\n"
+            why = told_thrice(growth_told, program, words, text, part, count, room)
         yield f"({name}: the time by their number)", (0, "", ""), (0, why.encode(), b"")
 
 
-def time_of_parts(program, words, part, count, room):
-    """What a run takes that is given a file `parts` of so many parts."""
-    texts = {"parts": "".join(part % it for it in range(count)), "none": "[]", "asked": '{action: Action::"a", context: {}}'}
+def growth_told(program, words, text, part, count, room):
+    try:
+        none, small, large = (time_of_parts(program, words, text, part, it, room) for it in (0, count, 4 * count))
+    except subprocess.TimeoutExpired:
+        return f"{4 * count} took more than {SECONDS} seconds\n"
+    if large - none <= GROWTH * (small - none):
+        return ""
+    return f"{count} took {small:.2f} processor seconds, {4 * count} took {large:.2f}, and none {none:.2f}\n"
+
+
+def time_of_parts(program, words, text, part, count, room):
+    """What a run takes that is given a text of so many parts, in the file `parts` and on standard input."""
+    parts = text.replace("PARTS", "".join(part % it for it in range(count)))
+    texts = {"parts": parts, "none": "[]", "asked": '{action: Action::"a", context: {}}'}
     for name, text in texts.items():
         with open(f"{room}/{name}", "w", encoding="utf-8") as it:
             it.write(text)
-    return processor_seconds(program, words, b"", room)
+    return processor_seconds(program, words, parts.encode(), room)
 
 
 def main():
@@ -229,7 +296,7 @@ def main():
     if not os.access(program, os.X_OK):
         sys.exit(f"there is no program {words[1]}; `rt run` in crates/cedar_cli leaves one at crates/cedar_cli/out/cedar_cli, and tools/build.py one without a proof")
     passed = failed = 0
-    for tried in (of_texts, of_folders, of_habits, of_page, beside, of_times, of_growths):
+    for tried in (of_texts, of_calls, of_folders, of_habits, of_pages, beside, of_times, of_growths):
         for name, wanted, got in tried(program):
             if words[2:] and name not in words[2:]:
                 continue

@@ -67,9 +67,11 @@ exports_of_archive() {
     nm -g --defined-only "$folder/lib/libcedar.a" | awk 'NF == 3 { print $3 }' | sort | diff "$room/declared" -
 }
 
-# The clients are of the header's version, and have its highest limit of depth.
+# The header's numbers are those of its version, of which the clients are; they have its highest limit of depth.
 versions() {
     local it
+    it=$(sed -n 's/^#define CEDAR_VERSION_M[AI][JN]OR //p' crates/cedar_c/include/cedar.h | paste -s -d .)
+    grep "^#define CEDAR_VERSION \"$it\\." crates/cedar_c/include/cedar.h || return 1
     it=$(sed -n 's/^#define CEDAR_VERSION "\(.*\)"$/\1/p' crates/cedar_c/include/cedar.h)
     grep -x "version = \"$it\"" clients/python/pyproject.toml && grep -x "version = \"$it\"" clients/rust/Cargo.toml || return 1
     grep -x "_VERSION = \"${it%.*}.\"" clients/python/cedar_session/session.py && grep -x "const VERSION: &str = \"${it%.*}.\";" clients/rust/src/session.rs || return 1
@@ -108,6 +110,16 @@ serves() {
     "$@" "$room/serve" < "$room/lines" > "$room/served" && diff "$room/wanted" "$room/served"
 }
 
+# Why a session would refuse each of these commands, which it does behind that.
+whys() {
+    "$@" "$room/why" < crates/cedar_c/examples/why.stdin > "$room/whys" && diff crates/cedar_c/examples/why.stdout "$room/whys"
+}
+
+# What JSON is answered, and why it is none.
+jsons() {
+    "$@" "$room/json" < crates/cedar_c/examples/json.stdin > "$room/jsons" && diff crates/cedar_c/examples/json.stdout "$room/jsons"
+}
+
 costs() {
     "$room/cost" handle 100 && "$room/cost" run 100
 }
@@ -130,7 +142,7 @@ typed_sessions() {
 }
 
 misuse() {
-    "$@" "$room/misuse" && "$@" "$room/misuse" threads
+    "$@" "$room/misuse" && "$@" "$room/misuse" threads && "$@" "$room/misuse_json"
 }
 
 memcheck() {
@@ -153,7 +165,7 @@ under_valgrind() {
     # shellcheck disable=SC2016
     find crates/cedar_main/cases -name '*.stdin' -size -20001c -print0 | xargs -0 -P "$(nproc)" -n 1 bash -c 'clean_session "$1"' '' || return 1
     clean_session crates/cedar_cli/sessions/ip-on-literals.stdin session || return 1
-    serves memcheck
+    serves memcheck && whys memcheck && jsons memcheck
 }
 
 # One with psycopg, where there is one.
@@ -214,13 +226,16 @@ if has cc 'the examples in C, and all that needs the shared object'; then
     try 'a shared object exports what the header declares' shared_object
     try 'the archive exports it too, and nothing else' exports_of_archive
     try 'the clients are of the version of the header' versions
-    for example in ask serve frames stack cost; do try "$example.c is compiled" link "$example"; done
+    for example in ask serve why json frames stack cost; do try "$example.c is compiled" link "$example"; done
     try 'misuse.c is compiled' link misuse -Wl,--wrap=malloc
+    try 'misuse_json.c is compiled' link misuse_json
     try 'docs/C.md begins with a program, and shows what it writes' page
     try 'ask.c writes what docs/C.md shows' ask
     has pkg-config 'ask.c by pkg-config' && try 'ask.c by pkg-config, over the shared object' by_pkg_config
     has c++ 'the header in C++' && try 'the header in C++' as_cplusplus
     try 'serve.c answers a line each' serves
+    try 'why.c says why a command is refused' whys
+    try 'json.c answers JSON, and says why it is none' jsons
     try 'cost.c is answered' costs
     try 'what a caller does wrong is a status' misuse limited
     try 'threads with the stacks of cedar.h hold the deepest texts' stacks
