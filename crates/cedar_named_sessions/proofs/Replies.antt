@@ -1,9 +1,6 @@
 -- What the session answers a text, and what it leaves.
-use Rattle.std.proofs.Common.{◌≡◌, inl, inr, List, Option, Result, Ok, Err, refl}
+use Rattle.std.proofs.Common.{◌≡◌, inl, inr, List, Result, Ok, Err, refl}
 use Rattle.std.specs.Prelude.{IsUtf8}
-use Rattle.cedar_json.specs.Said.{IsUnsaid}
-use Rattle.cedar_json.specs.declared.reading.Unread.{Unread}
-use Rattle.cedar_json.specs.declared.reading.Unread.TheVariants as unread
 use Rattle.cedar_language.specs.Uid.{Text}
 use Rattle.cedar_replies.specs.Replies.{accepted}
 use Rattle.cedar_replies.specs.Refusals.{refusal_of}
@@ -20,9 +17,7 @@ use Rattle.cedar_world.specs.Setting.{Setting}
 use Rattle.cedar_world.specs.Step.{Step}
 use Rattle.cedar_world.specs.World.{World}
 use Rattle.cedar_named_sessions.specs.Loading.{IsTold, TakesAway, EditsEntities, Questions}
-use Rattle.cedar_named_sessions.specs.Links.{link_by_slots}
 use Rattle.cedar_named_sessions.specs.Steps.{Named, States, StatesLink, AnswersByIds, AnswerStep, LinkStep, TakeAwayStep}
-use Rattle.cedar_named_sessions.specs.Unreading.{refusal_for}
 use Rattle.cedar_named_sessions.specs.declared.refusals.NamedRefusal.{NamedRefusal}
 use Rattle.cedar_named_sessions.specs.declared.refusals.NamedRefusal.TheVariants.{Untold, Refused}
 
@@ -110,8 +105,3 @@ module _ (by : Setting) (old new : Named) (name id json text : Text) where
       → LinkStep by old name id json (Err (Refused r)) new
   not_linked refusal.Memory states step same = same
   not_linked r states step same = (inr (text, states, step), same)
-
-  -- the entities of the slots aren't said
-  pub unsaid_link : (e : Unread) (template : Text) → IsUnsaid (link_by_slots template id json) e → new ≡ old → LinkStep by old name id json (Err (refusal_for e)) new
-  unsaid_link unread.Memory template unsaid same = same
-  unsaid_link unread.Unsaid template unsaid same = ((template, unsaid), same)
